@@ -1,0 +1,10 @@
+use lib.ListN.{length}
+use Rattle.text.specs.declared.language.Language.the-variants.{Json}
+use Rattle.text.proofs.LexTold.{told, placed-on}
+use Rattle.text.proofs.json.token.Needs as need
+
+pub returns : need.returns
+returns c = record {
+  placed = placed-on (length (c .args .text .now)) (c .args .at) (c .skip .result) (c .token-at .result) (c .skip .ensures .onward) (c .skip .ensures .within) (c .token-at .ensures .placed);
+  found = told Json (c .args .text .now) (c .args .at) (c .skip .result) (c .token-at .result) (c .skip .ensures) (c .token-at .ensures .found);
+}

@@ -1,0 +1,12 @@
+pub mod Cuts
+pub mod Faults
+pub mod Places
+pub mod NumberGrammar
+pub mod NumberMoves
+pub mod NumberScan
+pub mod NumberWorth
+pub mod NormalForm
+pub mod StringGrammar
+pub mod StringDecode
+pub mod TokenGrammar
+pub mod TokenFound
