@@ -1,0 +1,16 @@
+pub mod Values
+pub mod Numbers
+pub mod Records
+pub mod Refusals
+pub mod Scalars
+pub mod Coercion
+pub mod Walk
+pub mod Taking
+pub mod Conforming
+pub mod Back
+pub mod Bounds
+pub mod Likeness
+pub mod Limits
+pub mod Calls
+pub mod Laws
+pub mod Cases
