@@ -23,3 +23,4 @@ pub mod RunBack
 pub mod RunBytes
 pub mod RunStands
 pub mod RunExtents
+pub mod RunLoad

@@ -12,7 +12,7 @@ use Rattle.model.specs.Numbers.{decimalOf, NormalDec, SameDec}
 use Rattle.model.specs.Records.{encode, encodeMems, size, sizeMems, Fits, FitsMems, Decodes, DecodesSheet}
 use Rattle.model.specs.Refusals.{Cause, tooDeep, noSpace, Refusal, Out, ok, refused, beyond, Here}
 use Rattle.model.specs.Scalars.{scalarAt, TakesScalar}
-use Rattle.model.specs.Coercion.{Rule, Slots, coerceAt, variableAt, sheetOf}
+use Rattle.model.specs.Coercion.{Rule, Slots, coerceAt, variableAt, variablesAt, sheetOf}
 use Rattle.model.specs.Walk.{walkAt}
 use Rattle.model.specs.Taking.{Takes}
 use Rattle.model.specs.Conforming.{Conforms}
@@ -131,6 +131,11 @@ Coerced k S R (v ∷ vs) (some g ∷ gs) (o ∷ os) = (variableAt k S R v (g .fo
 abbrev pub Runs-stand : Type 0
 Runs-stand = (k : ℕ) (S : Schema) (R : Rule) (cap : ℕ) (vs : List Variable) → Distinct (fieldNames (fieldsOf vs)) → (cs : List Call) (s : Sheet)
     → run k S R cap vs cs ≡ some s → Coerced k S R vs (s .standing) (s .slots) × (length (bytesOf vs (s .slots)) ≤ cap)
+
+-- an accepted load leaves what CoerceVariableValues gives, without limits
+abbrev pub Load-coerces : Type 0
+Load-coerces = (k : ℕ) (S : Schema) (R : Rule) (cap : ℕ) (vs : List Variable) → Distinct (fieldNames (fieldsOf vs)) → (st : State) (p : Form) (at : ℕ) (ms : Mems) (s : Sheet)
+    → answer k S R cap vs st (load p (object at ms)) ≡ ok s → variablesAt k S R p ms vs ≡ ok (s .slots)
 
 -- what stands for a variable: the given value, else its default
 abbrev pub stood : Variable → Option Given → Option Raw

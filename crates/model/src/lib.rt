@@ -1,6 +1,6 @@
 // What coercion, records and sheets mean (specs/), and the laws that follow (proofs/): a function for each law.
 ghost use Rattle.model.specs.Cases.{Worked-cases};
-ghost use Rattle.model.specs.Laws.{Whole-as-decimal, Same-number, Scalars-exactly, Outcome-stays, All-settle, Accepts-exactly, Takes-once, Walk-agrees, Walk-fits, Encode-injective, Size-is-length, Decodes-once, Accepts-conforming, Accepts-within, Comes-back, Same-when-alike, Runs-stand, Extents-cut, Equal-bytes-when-alike, Loads-back};
+ghost use Rattle.model.specs.Laws.{Whole-as-decimal, Same-number, Scalars-exactly, Outcome-stays, All-settle, Accepts-exactly, Takes-once, Walk-agrees, Walk-fits, Encode-injective, Size-is-length, Decodes-once, Accepts-conforming, Accepts-within, Comes-back, Same-when-alike, Runs-stand, Load-coerces, Extents-cut, Equal-bytes-when-alike, Loads-back};
 
 // Each worked case leaves what it says, computed from the definitions.
 pub fn worked_cases_stand() -> u8
@@ -124,6 +124,13 @@ pub fn same_when_alike_stands() -> u8
 // After any list of calls, a sheet holds what its standing values come to, within its capacity.
 pub fn runs_stand_stands() -> u8
     ensures { λ _. ⌜ Runs-stand ⌝ }
+{
+    0
+}
+
+// An accepted load leaves what CoerceVariableValues gives, without limits.
+pub fn load_coerces_stands() -> u8
+    ensures { λ _. ⌜ Load-coerces ⌝ }
 {
     0
 }
