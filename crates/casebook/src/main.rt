@@ -1,4 +1,6 @@
 // Prints the sheet of a schema, an operation and its variables, or the number of the refusal.
+#![tactic(auto)]
+
 use anyhow::anyhow;
 use coercion::rule::AcceptAll;
 use record::hex::hex;

@@ -1,6 +1,8 @@
 // Runs a table of cases, one to a line of standard input, and answers each with a line.
 // A case has five fields, with a tab between them: title, schema, operation, capacity and variables.
 // In the texts `^N^text^` stands for `text` N times, and `\xHH` for a byte.
+#![tactic(auto)]
+
 mod answer;
 mod table;
 

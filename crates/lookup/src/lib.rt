@@ -1,4 +1,6 @@
 // Finding a record by its name.
+#![tactic(auto)]
+
 ghost use Rattle.std.specs.Prelude.{◌≡◌, ℕ, List, map, length};
 ghost use Rattle.lookup.specs.First.{First};
 

@@ -1,4 +1,6 @@
 // What coercion, records and sheets mean (specs/), and the laws that follow (proofs/): a function for each law.
+#![tactic(auto)]
+
 ghost use Rattle.model.specs.Cases.{WorkedCases};
 ghost use Rattle.model.specs.Laws.{WholeAsDecimal, SameNumber, ScalarsExactly, OutcomeStays, AllSettle, AcceptsExactly, TakesOnce, WalkAgrees, WalkFits, EncodeInjective, SizeIsLength, DecodesOnce, AcceptsConforming, AcceptsWithin, ComesBack, SameWhenAlike, RunsStand, LoadCoerces, ExtentsCut, EqualBytesWhenAlike, LoadsBack, ShownAreTwins, PlacesDoNotMatter};
 

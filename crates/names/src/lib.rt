@@ -1,3 +1,5 @@
 // The names of an object's members, tested for repetition as they are read.
+#![tactic(auto)]
+
 pub mod names;
 pub mod part;

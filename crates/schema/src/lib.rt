@@ -1,4 +1,6 @@
 // Schemas and operations, and the built-in scalars.
+#![tactic(auto)]
+
 mod declared;
 pub mod definition;
 pub mod document;

@@ -1,4 +1,6 @@
 // Raw values: the trait through which they are asked, and one table of nodes for JSON and for GraphQL literals.
+#![tactic(auto)]
+
 pub mod limits;
 pub mod nodes;
 pub mod raw;

@@ -1,8 +1,8 @@
 -- What is found from a place on.
-use Rattle.std.proofs.Common.{◌≡◌, ℕ, ◌+◌, ◌-◌, ◌<◌, ◌≤◌, Bool, true, false, List, ◌++◌, length, take, drop, IfOk, Ok, Err, Decides, Result, sym, refl, ap, ◌∙◌, subst, arith, length-append, length-drop}
+use Rattle.std.proofs.Common.{◌≡◌, ◌==◌, ℕ, ◌+◌, ◌-◌, ◌<◌, ◌≤◌, Bool, true, false, List, ◌++◌, length, take, drop, IfOk, Ok, Err, Result, sym, refl, ap, ◌∙◌, subst, arith, length-append, length-drop}
 use Rattle.std.proofs.lemmas.Slice.Eq.{starts_is}
 use Rattle.std.proofs.lemmas.List.{drop-drop, take_rest}
-use Rattle.std.specs.Cmp.Lexicographic.{Matches}
+use Rattle.std.specs.List.{starts_with}
 use Rattle.text.specs.declared.fault.Fault.{Fault}
 use Rattle.text.specs.declared.fault.Fault.TheVariants.{BadText, TooDeep, NoSpace, RepeatedName, LongNumber, NoMemory}
 use Rattle.text.specs.declared.language.Language.{Language}
@@ -31,7 +31,7 @@ pub torn : {b : Bool} → b ≡ true → b ≡ false → ⊥
 torn t f = let z : ◌≡◌ {A = ℕ} 0 1 = cc in omega arith
 
 -- what `starts_with` says of the text from a place on
-pub begins_with : (text word : List ℕ) (i : ℕ) (r : Bool) → Matches (λ (a b : ℕ) (t : Bool). Decides t (a ≡ b)) word (take (length word) (take (length text - i) (drop i text))) r
+pub begins_with : (text word : List ℕ) (i : ℕ) (r : Bool) → r ≡ starts_with ◌==◌ (take (length text - i) (drop i text)) word
     → (r ≡ true → drop i text ≡ word ++ drop (i + length word) text) × ((rest : List ℕ) → drop i text ≡ word ++ rest → r ≡ true)
 begins_with text word i r m =
     let s = starts_is Decides-eqb (take (length text - i) (drop i text)) word r m in

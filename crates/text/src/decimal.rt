@@ -208,7 +208,11 @@ pub fn whole(text: &[u8]) -> &[u8]
     ensures pinned { WholeOf text.now result.now }
     ensures normal { Number text.now Whole → WholeNormal text.now result.now }
 {
-    if text == b"-0" { &text[1..] } else { text }
+    if text == b"-0".as_slice() {
+        &text[1..]
+    } else {
+        text
+    }
 }
 
 // A whole number as a decimal in normal form: sign and exponent, and its digits, which are a part of the text.

@@ -1,4 +1,6 @@
 // From bytes to the tokens of JSON and of GraphQL.
+#![tactic(auto)]
+
 pub mod decimal;
 pub mod fault;
 pub mod graphql;

@@ -1,4 +1,6 @@
 // Makes schemas and operations of texts: the tests that a grammar does not make.
+#![tactic(auto)]
+
 ghost use Rattle.std.specs.Prelude.{◌≤◌, IfOk, vec_len};
 
 pub mod defaults;

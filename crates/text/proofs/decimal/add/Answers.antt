@@ -11,14 +11,14 @@ loop-b-preserved c =
     let all = pushed c.args.base before ds (vec_items c.if-b-ne48.out) c.args.digits.now c.loop-b.b-index c.requires.above c.loop-b.invariant.0 c.loop-b-test.true in
     elim c.if-b-ne48.branch [
       | then-b-ne48 w ↦ (
-        all (ap vec_items w.out-is ∙ w.push-reserved.ensures.items)
+        all (ap vec_items w.out-is ∙ w.push_reserved.ensures.items)
             (elim w.then-b-ne48.branch [
               | then-b-ne48-via-then-b-ne48 x ↦ λ e. x.if-b-ne48.true
               | then-b-ne48-via-else-b-ne48+then-len-base x ↦ λ e.
                   let more : c.args.base < length ds = omega (arith, x.if-len-base.true, x.len.ensures, c.loop-b.out.ok.0) in
                   absurd (something_past c.args.base ds more e)
             ]),
-        ap vec_capacity w.out-is ∙ w.push-reserved.ensures.capacity ∙ c.loop-b.invariant.1,
+        ap vec_capacity w.out-is ∙ w.push_reserved.ensures.capacity ∙ c.loop-b.invariant.1,
       )
       | else-b-ne48+else-len-base w ↦
           let none : length ds ≤ c.args.base = omega (arith, w.if-len-base.false, w.len.ensures, c.loop-b.out.ok.0) in (

@@ -11,5 +11,5 @@ returns-in-45 c = led_minus c.args.text.now c.args.at c.if-at-text.false c.in-45
 pub returns-in-43 : goal.returns-in-43
 returns-in-43 c = led_plus c.args.text.now c.args.at c.if-at-text.false c.in-43.is
 
-pub returns-in-default : goal.returns-in-default
-returns-in-default c = led_other c.args.text.now c.args.at c.if-at-text.false (omega arith) (omega arith)
+pub returns-in_default : goal.returns-in_default
+returns-in_default c = led_other c.args.text.now c.args.at c.if-at-text.false (omega arith) (omega arith)

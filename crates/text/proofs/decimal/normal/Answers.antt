@@ -15,18 +15,18 @@ align c = aligned c.args.text.now c.minus-negative.result c.begin.result c.locat
 power_is : (c : In-Some) (n : Bool) (a : ℕ) (s : ℤ) (w : Writes c.args.text.now n a s) → Aligned c.args.text.now c.minus-negative.result c.locate-start.result n w.i w.ds w.e → c.in-Some.power ≡ w.p
 power_is c n a s w x = c.in-Some.ensures.1 w.p (subst (λ (k : List ℕ). Power k w.p) (sym x.power) w.power)
 
-pub returns-in-default : goal.returns-in-default
-returns-in-default c = (
+pub returns-in_default : goal.returns-in_default
+returns-in_default c = (
   refl,
   search rules,
-  great (omega (arith, c.if-text-gt-LONGEST-NUMBER.false)) (λ n a s w.
-      let x = align (goal.at.returns-in-default c).After-locate-start n a s w in
-      c.in-default.ensures w.p (subst (λ (l : List ℕ). Power l w.p) (sym x.power) w.power)),
+  great (omega (arith, c.if-text-gt-LONGEST_NUMBER.false)) (λ n a s w.
+      let x = align (goal.at.returns-in_default c).After-locate-start n a s w in
+      c.in_default.ensures w.p (subst (λ (l : List ℕ). Power l w.p) (sym x.power) w.power)),
 )
 
 within : (c : In-Some) (l : (n : Bool) (a : ℕ) (s : ℤ) (w : Writes c.args.text.now n a s) → Aligned c.args.text.now c.minus-negative.result c.locate-start.result n w.i w.ds w.e) → Within c.args.text.now
 within c l = record {
-  short = omega (arith, c.if-text-gt-LONGEST-NUMBER.false);
+  short = omega (arith, c.if-text-gt-LONGEST_NUMBER.false);
   small = λ n a s w. subst (λ (k : ℤ). nat_abs k < 1000000) (power_is c n a s w (l n a s w)) c.in-Some.ensures.0;
 }
 
@@ -34,32 +34,32 @@ place : (c : After-truncate) → Settled (vec_items c.args.out.now) (vec_items c
 place c =
     settled (vec_items c.args.out.now) (vec_items c.add.new.out) (vec_items c.add-2.new.out) (vec_items c.truncate.new.self) _ _ c.len-base.result c.trimmed-end.result (c.len.result - c.trimmed-end.result)
     (c.len-base.ensures ∙ c.args.out.now.ok.0)
-    (subst (λ (l : List ℕ). Grown c.len-base.result l (vec_items c.add.new.out) (part c.args.text.now c.locate-start.result.start c.locate-start.result.point)) c.in-ok-reserve.ensures.items c.add.ensures.grown)
+    (subst (λ (l : List ℕ). Grown c.len-base.result l (vec_items c.add.new.out) (part c.args.text.now c.locate-start.result.start c.locate-start.result.point)) c.in_ok-reserve.ensures.items c.add.ensures.grown)
     c.add-2.ensures.grown
     c.locate-start.ensures.wholes
     c.locate-start.ensures.fracs
-    (subst (λ (l : List ℕ). Trimmed l c.len-base.result c.trimmed-end.result) c.as-slice.ensures.value c.trimmed-end.ensures)
+    (subst (λ (l : List ℕ). Trimmed l c.len-base.result c.trimmed-end.result) c.as_slice.ensures.value c.trimmed-end.ensures)
     c.truncate.ensures.items
     (ap (λ (k : ℕ). k - c.trimmed-end.result) (c.len.ensures ∙ c.add-2.new.out.ok.0))
 
-pub returns-in-err-reserve : goal.returns-in-err-reserve
-returns-in-err-reserve c =
-    let p = err_from_is_err_and c.from-residual.result c.from-residual.ensures.1 in
-    let at = goal.at.returns-in-err-reserve c in
+pub returns-in_err-reserve : goal.returns-in_err-reserve
+returns-in_err-reserve c =
+    let p = err_from_is_err_and c.from_residual.result c.from_residual.ensures.1 in
+    let at = goal.at.returns-in_err-reserve c in
     rw (p.1, p.2) (record {
-      kept = c.in-err-reserve.ensures.items;
-      full = omega (arith, c.in-err-reserve.ensures.full, c.args.out.now.ok.0, c.locate-start.ensures.within);
+      kept = c.in_err-reserve.ensures.items;
+      full = omega (arith, c.in_err-reserve.ensures.full, c.args.out.now.ok.0, c.locate-start.ensures.within);
       within = within at.In-Some (align at.After-locate-start);
     })
 
-pub returns-in-err-push : goal.returns-in-err-push
-returns-in-err-push c =
-    let p = err_from_is_err_and c.from-residual-in-err-push.result c.from-residual-in-err-push.ensures.1 in
-    let at = goal.at.returns-in-err-push c in
+pub returns-in_err-push : goal.returns-in_err-push
+returns-in_err-push c =
+    let p = err_from_is_err_and c.from_residual-in_err-push.result c.from_residual-in_err-push.ensures.1 in
+    let at = goal.at.returns-in_err-push c in
     let start = unadded (vec_items c.args.out.now) (vec_items c.truncate.new.self) c.len-base.result c.trimmed-end.result _ _ (place at.After-truncate) c.if-end-base.true in
     rw (p.1, p.2) (record {
-      kept = c.in-err-push.ensures.items ∙ start;
-      full = omega (arith, c.in-err-push.ensures.full, c.truncate.new.self.ok.0, ap length start, c.truncate.ensures.capacity, c.add-2.ensures.room, c.add.ensures.room, c.in-ok-reserve.ensures.capacity);
+      kept = c.in_err-push.ensures.items ∙ start;
+      full = omega (arith, c.in_err-push.ensures.full, c.truncate.new.self.ok.0, ap length start, c.truncate.ensures.capacity, c.add-2.ensures.room, c.add.ensures.room, c.in_ok-reserve.ensures.capacity);
       within = within at.In-Some (align at.After-locate-start);
     })
 
@@ -67,7 +67,7 @@ pub returns-then-end-base : goal.returns-then-end-base
 returns-then-end-base c =
     let at = goal.at.returns-then-end-base c in
     added_zero c.args.text.now (vec_items c.args.out.now) (vec_items c.push.new.self) (vec_items c.truncate.new.self) c.len-base.result c.trimmed-end.result _ _
-    (place at.After-truncate) c.if-end-base.true c.in-ok-push.ensures.items
+    (place at.After-truncate) c.if-end-base.true c.in_ok-push.ensures.items
     (within at.In-Some (align at.After-locate-start))
     (λ n a s w. amount_is w (align at.After-locate-start n a s w))
 

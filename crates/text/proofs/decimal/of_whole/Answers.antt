@@ -4,8 +4,8 @@ use Rattle.std.proofs.lemmas.List.{take_all}
 use Rattle.text.proofs.NormLaws.{of_whole_zero, of_whole_some}
 use Rattle.text.proofs.decimal.of_whole.Goals as goal
 
-pub returns-then-text-gt-LONGEST-NUMBER : goal.returns-then-text-gt-LONGEST-NUMBER
-returns-then-text-gt-LONGEST-NUMBER c = record {
+pub returns-then-text-gt-LONGEST_NUMBER : goal.returns-then-text-gt-LONGEST_NUMBER
+returns-then-text-gt-LONGEST_NUMBER c = record {
   from = 0;
   to = length c.args.text.now;
   forward = omega arith;
@@ -28,7 +28,7 @@ returns-then-end-start c = record {
 
 pub returns : goal.returns
 returns c =
-    let size : to_z w32 (length c.args.text.now - c.trimmed-end.result) ≡ pos (length c.args.text.now - c.trimmed-end.result) = omega (arith, ints, c.if-text-gt-LONGEST-NUMBER.false) in
+    let size : to_z w32 (length c.args.text.now - c.trimmed-end.result) ≡ pos (length c.args.text.now - c.trimmed-end.result) = omega (arith, ints, c.if-text-gt-LONGEST_NUMBER.false) in
     let some : c.begin-start.result < c.trimmed-end.result = omega (arith, c.trimmed-end.ensures.forward, c.if-end-start.false) in
     record {
       from = c.begin-start.result;

@@ -19,11 +19,11 @@ stands c p q = c.lead-less.ensures.power (get_or c.args.text.now c.args.at 0) p 
 sized : (c : After-size) (r : Option ℕ) → Sized (part c.args.text.now c.lead-less.result.1 (length c.args.text.now)) r → Sized (drop c.lead-less.result.1 c.args.text.now) r
 sized c r = subst (λ (x : List ℕ). Sized x r) (part_end c.args.text.now c.lead-less.result.1)
 
-pub returns-in-default : goal.returns-in-default
-returns-in-default c p q =
-    let at = (goal.at.returns-in-default c).After-size in
+pub returns-in_default : goal.returns-in_default
+returns-in_default c p q =
+    let at = (goal.at.returns-in_default c).After-size in
     let s = stands at p q in
-    omega (arith, ap nat_abs s.0, nat_abs-signed c.lead-less.result.0 (value (drop c.lead-less.result.1 c.args.text.now)), sized at None c.in-default.ensures s.1)
+    omega (arith, ap nat_abs s.0, nat_abs-signed c.lead-less.result.0 (value (drop c.lead-less.result.1 c.args.text.now)), sized at None c.in_default.ensures s.1)
 
 pub returns-then-less : goal.returns-then-less
 returns-then-less c =

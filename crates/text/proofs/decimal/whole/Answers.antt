@@ -13,12 +13,12 @@ left_alone text n = record { zero = λ h. absurd (n h); other = λ h. refl }
 
 pub returns-then-eq : goal.returns-then-eq
 returns-then-eq c =
-    let told = slice_eq-Decides Decides-eqb c.args.text.now (45 ∷ 48 ∷ []) c.eq.result c.eq.ensures in
-    let o = cut_minus c.args.text.now (told.0 c.if-eq.true) in
+    let told = slice_eq-Decides Decides-eqb c.args.text.now c.as_slice.result.now c.eq.result c.eq.ensures in
+    let o = cut_minus c.args.text.now (told.0 c.if-eq.true ∙ c.as_slice.ensures) in
     record { pinned = o; normal = whole_normal c.args.text.now _ o }
 
 pub returns-else-eq : goal.returns-else-eq
 returns-else-eq c =
-    let told = slice_eq-Decides Decides-eqb c.args.text.now (45 ∷ 48 ∷ []) c.eq.result c.eq.ensures in
-    let o = left_alone c.args.text.now (λ e. let z : false ≡ true = sym c.if-eq.false ∙ told.1 e in let n : ◌≡◌ {A = ℕ} 0 1 = cc in omega arith) in
+    let told = slice_eq-Decides Decides-eqb c.args.text.now c.as_slice.result.now c.eq.result c.eq.ensures in
+    let o = left_alone c.args.text.now (λ e. let z : false ≡ true = sym c.if-eq.false ∙ told.1 (e ∙ sym c.as_slice.ensures) in let n : ◌≡◌ {A = ℕ} 0 1 = cc in omega arith) in
     record { pinned = o; normal = whole_normal c.args.text.now c.args.text.now o }

@@ -4,14 +4,14 @@ use Rattle.text.proofs.graphql.comment.Goals as goal
 pub loop-next-init : goal.loop-next-init
 loop-next-init c = comment_start c.args.text.now c.args.at c.requires.0 c.requires.1
 
-pub returns-in-default : goal.returns-in-default
-returns-in-default c = comment_broken c.loop-next.invariant c.loop-next-test.true c.if-not-ends-line.ensures c.in-default.ensures
+pub returns-in_default : goal.returns-in_default
+returns-in_default c = comment_broken c.loop-next.invariant c.loop-next-test.true c.if-not-ends_line.ensures c.in_default.ensures
 
 pub loop-next-preserved : goal.loop-next-preserved
-loop-next-preserved c = comment_more c.loop-next.invariant c.in-Some.end c.loop-next-test.true c.if-not-ends-line.ensures c.in-Some.ensures
+loop-next-preserved c = comment_more c.loop-next.invariant c.in-Some.end c.loop-next-test.true c.if-not-ends_line.ensures c.in-Some.ensures
 
-pub returns-else-not-ends-line : goal.returns-else-not-ends-line
-returns-else-not-ends-line c = comment_line c.loop-next.invariant c.loop-next-test.true c.if-not-ends-line.ensures
+pub returns-else-not-ends_line : goal.returns-else-not-ends_line
+returns-else-not-ends_line c = comment_line c.loop-next.invariant c.loop-next-test.true c.if-not-ends_line.ensures
 
 pub returns-after-loop-next : goal.returns-after-loop-next
 returns-after-loop-next c = comment_done c.loop-next.invariant c.loop-next-test.false

@@ -42,5 +42,5 @@ returns-in-124 c = (pipe, subst (λ (k : ℕ). Punctuator k pipe) (sym c.in-124.
 pub returns-in-125 : goal.returns-in-125
 returns-in-125 c = (close_brace, subst (λ (k : ℕ). Punctuator k close_brace) (sym c.in-125.is) p_close_brace, refl)
 
-pub returns-in-default : goal.returns-in-default
-returns-in-default c m s = not_punctuator s (omega arith) (omega arith) (omega arith) (omega arith) (omega arith) (omega arith) (omega arith) (omega arith) (omega arith) (omega arith) (omega arith) (omega arith) (omega arith)
+pub returns-in_default : goal.returns-in_default
+returns-in_default c m s = not_punctuator s (omega arith) (omega arith) (omega arith) (omega arith) (omega arith) (omega arith) (omega arith) (omega arith) (omega arith) (omega arith) (omega arith) (omega arith) (omega arith)

@@ -9,4 +9,4 @@ pub loop-end-preserved : goal.loop-end-preserved
 loop-end-preserved c = skip_more c.in-Some.end c.loop-end.invariant c.in-Some.ensures
 
 pub returns : goal.returns
-returns c = skip_done c.loop-end.invariant c.in-default.ensures
+returns c = skip_done c.loop-end.invariant c.in_default.ensures

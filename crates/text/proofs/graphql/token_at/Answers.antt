@@ -17,8 +17,8 @@ returns-in-Some c =
       placed = stands_placed _ _ _ _ (omega arith) (omega arith);
     }
 
-pub returns-in-default-byte : goal.returns-in-default-byte
-returns-in-default-byte c = record {
-  found = (refl, no_token c.args.text.now c.args.start c.if-start-text.false c.in-default.ensures c.if-begins-name.ensures c.if-begins-number.ensures (omega arith) (omega arith));
+pub returns-in_default-byte : goal.returns-in_default-byte
+returns-in_default-byte c = record {
+  found = (refl, no_token c.args.text.now c.args.start c.if-start-text.false c.in_default.ensures c.if-begins_name.ensures c.if-begins_number.ensures (omega arith) (omega arith));
   placed = tt;
 }

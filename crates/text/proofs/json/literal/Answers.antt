@@ -3,20 +3,20 @@ use Rattle.text.proofs.LexTold.{stands_placed, torn, begins_with, begins_fits}
 use Rattle.text.proofs.LexJson.{literal_here, no_literal, literal_some}
 use Rattle.text.proofs.json.literal.Goals as goal
 
-pub returns-then-not-starts-with : goal.returns-then-not-starts-with
-returns-then-not-starts-with c =
-    let s = begins_with c.args.text.now c.args.word.now c.args.start c.starts-with.result c.starts-with.ensures.value in
+pub returns-then-not-starts_with : goal.returns-then-not-starts_with
+returns-then-not-starts_with c =
+    let s = begins_with c.args.text.now c.args.word.now c.args.start c.starts_with.result c.starts_with.ensures.value in
     record {
-      found = (refl, no_literal c.args.text.now c.args.start c.args.word.now c.requires.0 c.requires.1 c.requires.2 (λ r e. torn (s.1 r e) c.if-not-starts-with.true));
+      found = (refl, no_literal c.args.text.now c.args.start c.args.word.now c.requires.start_in_bounds c.requires.literal_name c.requires.start_value (λ r e. torn (s.1 r e) c.if-not-starts_with.true));
       placed = tt;
     }
 
 pub returns : goal.returns
 returns c =
-    let s = begins_with c.args.text.now c.args.word.now c.args.start c.starts-with.result c.starts-with.ensures.value in
-    let e = s.0 c.if-not-starts-with.false in
-    let long = begins_fits c.args.text.now c.args.word.now c.args.start (literal_some c.requires.1) e in
+    let s = begins_with c.args.text.now c.args.word.now c.args.start c.starts_with.result c.starts_with.ensures.value in
+    let e = s.0 c.if-not-starts_with.false in
+    let long = begins_fits c.args.text.now c.args.word.now c.args.start (literal_some c.requires.literal_name) e in
     record {
-      found = (refl, literal_here c.args.text.now c.args.start c.args.word.now c.requires.0 c.requires.1 c.requires.2 e long);
-      placed = stands_placed _ _ _ _ (omega (arith, literal_some c.requires.1)) long;
+      found = (refl, literal_here c.args.text.now c.args.start c.args.word.now c.requires.start_in_bounds c.requires.literal_name c.requires.start_value e long);
+      placed = stands_placed _ _ _ _ (omega (arith, literal_some c.requires.literal_name)) long;
     }

@@ -3,9 +3,9 @@ use Rattle.text.proofs.LexTold.{stands_placed}
 use Rattle.text.proofs.LexJson.{string_here, no_string}
 use Rattle.text.proofs.json.quoted.Goals as goal
 
-pub returns-in-default : goal.returns-in-default
-returns-in-default c = record {
-  found = (refl, no_string c.args.text.now c.args.start c.requires.0 c.requires.1 c.in-default.ensures);
+pub returns-in_default : goal.returns-in_default
+returns-in_default c = record {
+  found = (refl, no_string c.args.text.now c.args.start c.requires.0 c.requires.1 c.in_default.ensures);
   placed = tt;
 }
 

@@ -21,5 +21,5 @@ returns-in-58 c = (colon, subst (λ (k : ℕ). Structural k colon) (sym c.in-58.
 pub returns-in-44 : goal.returns-in-44
 returns-in-44 c = (comma, subst (λ (k : ℕ). Structural k comma) (sym c.in-44.is) value-separator, refl)
 
-pub returns-in-default : goal.returns-in-default
-returns-in-default c m s = not_structural s (omega arith) (omega arith) (omega arith) (omega arith) (omega arith) (omega arith)
+pub returns-in_default : goal.returns-in_default
+returns-in_default c m s = not_structural s (omega arith) (omega arith) (omega arith) (omega arith) (omega arith) (omega arith)

@@ -19,16 +19,16 @@ returns-in-Some c =
     }
 
 pub literal-requires : goal.literal-requires
-literal-requires c = (c.if-start-text.false, true_name, c.in-116.is)
+literal-requires c = (record { start_in_bounds = c.if-start-text.false; literal_name = true_name; start_value = c.in-116.is })
 
 pub literal-requires-in-102 : goal.literal-requires-in-102
-literal-requires-in-102 c = (c.if-start-text.false, false_name, c.in-102.is)
+literal-requires-in-102 c = (record { start_in_bounds = c.if-start-text.false; literal_name = false_name; start_value = c.in-102.is })
 
 pub literal-requires-in-110 : goal.literal-requires-in-110
-literal-requires-in-110 c = (c.if-start-text.false, null_name, c.in-110.is)
+literal-requires-in-110 c = (record { start_in_bounds = c.if-start-text.false; literal_name = null_name; start_value = c.in-110.is })
 
-pub returns-in-default-byte : goal.returns-in-default-byte
-returns-in-default-byte c = record {
-  found = (refl, no_token c.args.text.now c.args.start c.if-start-text.false c.in-default.ensures (omega arith) c.if-begins-number.ensures (omega arith) (omega arith) (omega arith));
+pub returns-in_default-byte : goal.returns-in_default-byte
+returns-in_default-byte c = record {
+  found = (refl, no_token c.args.text.now c.args.start c.if-start-text.false c.in_default.ensures (omega arith) c.if-begins_number.ensures (omega arith) (omega arith) (omega arith));
   placed = tt;
 }

@@ -7,8 +7,8 @@ use Rattle.text.proofs.number.scan.Goals as goal
 pub loop-end-init : goal.loop-end-init
 loop-end-init c = begin c.args.text.now c.args.at
 
-pub returns-then-end-at-ge-LONGEST-NUMBER : goal.returns-then-end-at-ge-LONGEST-NUMBER
-returns-then-end-at-ge-LONGEST-NUMBER c =
+pub returns-then-end-at-ge-LONGEST_NUMBER : goal.returns-then-end-at-ge-LONGEST_NUMBER
+returns-then-end-at-ge-LONGEST_NUMBER c =
     let e = c.if-not-step.ensures in
     (omega arith, inl (endless c.loop-end.invariant c.step.new.self.state c.step.new.self.exponent (omega arith) e.0 e.1 (omega arith)))
 
@@ -28,12 +28,12 @@ rested c =
           subst P (sym (w.scanner-is ∙ e.1)) (record { reached = c.loop-end.invariant; stop = λ h. e.0 })
     ]
 
-pub returns-in-default : goal.returns-in-default
-returns-in-default c = (omega arith, unfinished (rested (goal.at.returns-in-default c).Left-loop-end) (sym c.in-default.ensures))
+pub returns-in_default : goal.returns-in_default
+returns-in_default c = (omega arith, unfinished (rested (goal.at.returns-in_default c).Left-loop-end) (sym c.in_default.ensures))
 
-pub returns-then-scanner-ge-LONG-EXPONENT : goal.returns-then-scanner-ge-LONG-EXPONENT
-returns-then-scanner-ge-LONG-EXPONENT c =
-    (omega arith, inr (far_scaled (rested (goal.at.returns-then-scanner-ge-LONG-EXPONENT c).Left-loop-end) (sym c.in-Some.ensures) (omega arith)))
+pub returns-then-scanner-ge-LONG_EXPONENT : goal.returns-then-scanner-ge-LONG_EXPONENT
+returns-then-scanner-ge-LONG_EXPONENT c =
+    (omega arith, inr (far_scaled (rested (goal.at.returns-then-scanner-ge-LONG_EXPONENT c).Left-loop-end) (sym c.in-Some.ensures) (omega arith)))
 
 pub returns : goal.returns
 returns c = found (rested (goal.at.returns c).Left-loop-end) (sym c.in-Some.ensures) (omega arith)

@@ -8,5 +8,5 @@ returns-then-at-text c y r u = omega (arith, (by_lead c.args.text.now c.args.at 
 pub returns-in-0-to-127 : goal.returns-in-0-to-127
 returns-in-0-to-127 c = utf8_one c.args.text.now c.args.at (omega arith) (omega arith)
 
-pub returns-in-default : goal.returns-in-default
-returns-in-default c y r u = ⊎_elim (λ h. omega arith) (λ h. omega arith) (by_lead c.args.text.now c.args.at u).1
+pub returns-in_default : goal.returns-in_default
+returns-in_default c y r u = ⊎_elim (λ h. omega arith) (λ h. omega arith) (by_lead c.args.text.now c.args.at u).1

@@ -33,5 +33,5 @@ returns-in-t c = escape_short c.args.text.now c.args.at c.if-at-text.false c.in-
 pub returns-in-u : goal.returns-in-u
 returns-in-u c = escape_u c.args.text.now c.args.at c.if-at-text.false c.in-u.is c.unicode.result c.unicode.ensures
 
-pub returns-in-default : goal.returns-in-default
-returns-in-default c = escape_other c.args.text.now c.args.at c.if-at-text.false _ refl (omega arith) (omega arith) (omega arith) (omega arith) (omega arith) (omega arith) (omega arith) (omega arith) (omega arith)
+pub returns-in_default : goal.returns-in_default
+returns-in_default c = escape_other c.args.text.now c.args.at c.if-at-text.false _ refl (omega arith) (omega arith) (omega arith) (omega arith) (omega arith) (omega arith) (omega arith) (omega arith) (omega arith)

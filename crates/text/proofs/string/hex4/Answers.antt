@@ -5,17 +5,17 @@ use Rattle.text.proofs.string.hex4.Goals as goal
 pub returns-then-text-at-lt4 : goal.returns-then-text-at-lt4
 returns-then-text-at-lt4 c = too_short c.args.text.now c.args.at c.if-text-at-lt4.true
 
-pub returns-in-default : goal.returns-in-default
-returns-in-default c = digit_fails c.args.text.now c.args.at (omega arith) (λ p q s t. omega (arith, c.in-default.ensures))
+pub returns-in_default : goal.returns-in_default
+returns-in_default c = digit_fails c.args.text.now c.args.at (omega arith) (λ p q s t. omega (arith, c.in_default.ensures))
 
-pub returns-in-default-hex : goal.returns-in-default-hex
-returns-in-default-hex c = digit_fails c.args.text.now c.args.at (omega arith) (λ p q s t. omega (arith, c.in-default-hex.ensures))
+pub returns-in_default-hex : goal.returns-in_default-hex
+returns-in_default-hex c = digit_fails c.args.text.now c.args.at (omega arith) (λ p q s t. omega (arith, c.in_default-hex.ensures))
 
-pub returns-in-default-hex-2 : goal.returns-in-default-hex-2
-returns-in-default-hex-2 c = digit_fails c.args.text.now c.args.at (omega arith) (λ p q s t. omega (arith, c.in-default-hex-2.ensures))
+pub returns-in_default-hex-2 : goal.returns-in_default-hex-2
+returns-in_default-hex-2 c = digit_fails c.args.text.now c.args.at (omega arith) (λ p q s t. omega (arith, c.in_default-hex-2.ensures))
 
-pub returns-in-default-hex-3 : goal.returns-in-default-hex-3
-returns-in-default-hex-3 c = digit_fails c.args.text.now c.args.at (omega arith) (λ p q s t. omega (arith, c.in-default-hex-3.ensures))
+pub returns-in_default-hex-3 : goal.returns-in_default-hex-3
+returns-in_default-hex-3 c = digit_fails c.args.text.now c.args.at (omega arith) (λ p q s t. omega (arith, c.in_default-hex-3.ensures))
 
 pub returns : goal.returns
 returns c =

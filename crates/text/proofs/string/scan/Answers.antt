@@ -7,8 +7,8 @@ loop-end-init c = scan_start c.args.language c.args.text.now c.args.at
 pub returns-then-text-end-eq34 : goal.returns-then-text-end-eq34
 returns-then-text-end-eq34 c = scan_ends c.loop-end.invariant c.loop-end-test.true c.if-text-end-eq34.true
 
-pub returns-in-default : goal.returns-in-default
-returns-in-default c = scan_bad c.loop-end.invariant c.loop-end-test.true c.if-text-end-eq34.false c.in-default.ensures
+pub returns-in_default : goal.returns-in_default
+returns-in_default c = scan_bad c.loop-end.invariant c.loop-end-test.true c.if-text-end-eq34.false c.in_default.ensures
 
 pub loop-end-preserved : goal.loop-end-preserved
 loop-end-preserved c = scan_more c.loop-end.invariant c.loop-end-test.true c.in-Some.ensures
