@@ -131,10 +131,10 @@ module _ (before mid : List Link) (new : Link) (at : ℕ) (side : Bool) (c : ℕ
   grown_set =
       record {
         long = length-set mid at _ ∙ g.long;
-        name_kept = λ k h. name_same k ∙ g.name-kept k h;
-        hash_kept = λ k h. hash_same k ∙ g.hash-kept k h;
+        name_kept = λ k h. name_same k ∙ g.name_kept k h;
+        hash_kept = λ k h. hash_same k ∙ g.hash_kept k h;
         name_new = name_same (length before) ∙ g.name_new;
-        hash_new = hash_same (length before) ∙ g.hash-new;
+        hash_new = hash_same (length before) ∙ g.hash_new;
         children = λ k d s x.
             let y = g.children k d s x in
             record { is = child_same k d s x ∙ y.is; after = y.after; within = omega (arith, y.within, length-set mid at (with_child_lem (get_or mid at blank) side c)) };
@@ -167,7 +167,7 @@ sound_grown : (text pool : List ℕ) (before after : List Link) (base : ℕ) (ne
     → Leads after (hash_of_lem (bytes_of text pool new.name)) (bytes_of text pool new.name) base 0 (length before)
     → Sound text pool after base
 sound_grown text pool before after base new g s fits hashed leads =
-    let kept : (k : ℕ) → k < length before → name_at text pool before k ≡ name_at text pool after k = λ k h. ap (bytes_of text pool) (sym (g.name-kept k h)) in
+    let kept : (k : ℕ) → k < length before → name_at text pool before k ≡ name_at text pool after k = λ k h. ap (bytes_of text pool) (sym (g.name_kept k h)) in
     let last : bytes_of text pool new.name ≡ name_at text pool after (length before) = ap (bytes_of text pool) (sym g.name_new) in
     record {
       leads = λ k a h.
@@ -177,13 +177,13 @@ sound_grown text pool before after base new g s fits hashed leads =
           k h a;
       fits = λ k a h.
           each (λ k. base ≤ k → PartFits text pool (get_or after k blank).name) (length before) (length after) g.long
-          (λ k h a. subst (PartFits text pool) (sym (g.name-kept k h)) (s.fits k a h))
+          (λ k h a. subst (PartFits text pool) (sym (g.name_kept k h)) (s.fits k a h))
           (λ a. subst (PartFits text pool) (sym g.name_new) fits)
           k h a;
       hashed = λ k a h.
           each (λ k. base ≤ k → (get_or after k blank).hash ≡ hash_of_lem (name_at text pool after k)) (length before) (length after) g.long
-          (λ k h a. g.hash-kept k h ∙ s.hashed k a h ∙ ap hash_of_lem (kept k h))
-          (λ a. g.hash-new ∙ hashed ∙ ap hash_of_lem last)
+          (λ k h a. g.hash_kept k h ∙ s.hashed k a h ∙ ap hash_of_lem (kept k h))
+          (λ a. g.hash_new ∙ hashed ∙ ap hash_of_lem last)
           k h a;
     }
 

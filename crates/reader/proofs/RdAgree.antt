@@ -275,14 +275,14 @@ module _ (N : ℕ → Sight → Type 0) (T : ℕ → ℕ → ℕ → Lexical →
         agree {t = t} (r_deep n h z) v k w b = absurd (omega (arith, deep_enough distinct k t b))
         agree {i = i} (r_leaf {s = s} {e = e} {x = x} {t = y} n h l) v k w b = let u = (view v (sees s e x) n).leaf y l (number_at i s e x n) in got_both u.1 u.0
         agree {j = j} (r_variable {s = s} {e = e} {v = x} n h m z) v k w b =
-            let u = (view v (sees s e (a_mark dollar)) n).a-variable refl in
+            let u = (view v (sees s e (a_mark dollar)) n).a_variable refl in
             sym z ∙ variable_agrees s j u.0 u.1 x (sure e u.0 j (a_name u.1) x m u.2) ∙ ap (got j) (sym u.3)
         agree {j = j} (r_list {s = s} {e = e} n h r z) v k w b =
-            let u = (view v (sees s e (a_mark open_bracket)) n).a-list refl in
+            let u = (view v (sees s e (a_mark open_bracket)) n).a_list refl in
             let c : Bounded distinct k (list s u.0) = subst (Bounded distinct k) u.2 b in
             sym z ∙ ap (as_list s) (agree_list r u.1 (suc k) (omega arith) c.1) ∙ ap (got j) (sym u.2)
         agree {j = j} (r_object {s = s} {e = e} n h r z) v k w b =
-            let u = (view v (sees s e (a_mark open_brace)) n).an-object refl in
+            let u = (view v (sees s e (a_mark open_brace)) n).an_object refl in
             let c : Bounded distinct k (object s u.0) = subst (Bounded distinct k) u.2 b in
             sym z ∙ ap (as_object s) (agree_object r u.1 (suc k) (omega arith) c.1 c.2) ∙ ap (got j) (sym u.2)
 

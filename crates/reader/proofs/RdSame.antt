@@ -256,8 +256,8 @@ module _ (N : ℕ → Sight → Type 0) (one : (i : ℕ) (v w : Sight) → N i v
   mutual
     pub same : {d i : ℕ} {o p : Out Raw} → Reads N language distinct d i o → Reads N language distinct d i p → o ≡ p
     same (r_blind {f = f} n) q = view q (blind f) n
-    same (r_none {s = s} {e = e} {x = x} n h) q = (view q (sees s e x) n).starts-not h
-    same (r_deep {s = s} {e = e} {x = x} {t = t} n h z) q = (view q (sees s e x) n).too-deep t h z
+    same (r_none {s = s} {e = e} {x = x} n h) q = (view q (sees s e x) n).starts_not h
+    same (r_deep {s = s} {e = e} {x = x} {t = t} n h z) q = (view q (sees s e x) n).too_deep_lem t h z
     same (r_leaf {s = s} {e = e} {x = x} {t = t} n h l) q = (view q (sees s e x) n).leaf t l h
     same (r_variable {s = s} {e = e} {v = v} n h m z) q =
         let w = (view q (sees s e (a_mark dollar)) n).variable refl h in

@@ -31,16 +31,16 @@ pub(crate) fn token(language: Language, text: &[u8], at: usize) -> Result<Lexeme
 fn word_node(word: &[u8], start: usize, end: usize, name: Part) -> Node
     ensures { (text pool : List ℕ) → start ≤ end → end ≤ length text → word.now ≡ cut_out text start end → LeafNode text pool pool name start (a_name word.now) result }
 {
-    if word == b"null" {
+    if word == b"null".as_slice() {
         return Node::new(Kind::Null, start, name);
     }
-    if word == b"true" {
+    if word == b"true".as_slice() {
         return Node {
             flag: true,
             ..Node::new(Kind::Boolean, start, name)
         };
     }
-    if word == b"false" {
+    if word == b"false".as_slice() {
         return Node::new(Kind::Boolean, start, name);
     }
     Node {

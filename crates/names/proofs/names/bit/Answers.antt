@@ -4,9 +4,9 @@ use Rattle.names.specs.Bits.{bit_of}
 use Rattle.names.proofs.Hashing.{past_end}
 use Rattle.names.proofs.names.bit.Goals as goal
 
-pub returns-then-level-lt-HASH-BITS : goal.returns-then-level-lt-HASH-BITS
+pub returns-then-level-lt-HASH_BITS : goal.returns-then-level-lt-HASH_BITS
 unfolding bit_of
-returns-then-level-lt-HASH-BITS c = sym (cond-true _ _ _ (lt-ltb c.args.level 32 (omega arith)))
+returns-then-level-lt-HASH_BITS c = sym (cond-true _ _ _ (lt-ltb c.args.level 32 (omega arith)))
 
 pub returns-then-index-name : goal.returns-then-index-name
 returns-then-index-name c = sym (past_end c.args.hash c.args.name.now c.args.level (omega arith) (omega arith))
