@@ -71,7 +71,7 @@ leaf_mark (l_string e) m h = let z : ◌≡◌ {A = ℕ} 0 1 = cc in omega arith
 -- what an outcome is, by the token seen
 record ViewAt (N : ℕ → Sight → Type 0) (language : Language) (distinct : Bool) (d s e : ℕ) (x : Lexical) (p : Out Raw) : Type 0 where
   starts_not : ((t : Raw) → Starts s x t → ⊥) → fails (BadText s) ≡ p
-  too_deep_lem : (t : Raw) → Starts s x t → d ≡ 0 → fails (TooDeep s) ≡ p
+  too_deep : (t : Raw) → Starts s x t → d ≡ 0 → fails (TooDeep s) ≡ p
   leaf : (t : Raw) → Leaf s x t → 0 < d → got e t ≡ p
   variable : x ≡ a_mark dollar → 0 < d → (v : Sight) × N e v × (as_variable s v ≡ p)
   list : x ≡ a_mark open_bracket → 0 < d → (q : Out Raws) × ReadsList N language distinct (d - 1) e q × (as_list s q ≡ p)
@@ -136,7 +136,7 @@ module _ (N : ℕ → Sight → Type 0) (one : (i : ℕ) (v w : Sight) → N i v
   view {d} {i} {p} (r_blind {f = f} n) v m = subst (View N language distinct d p) (one i (blind f) v n m) refl
   view {d} {i} {p} (r_none {s = s} {e = e} {x = x} n h) v m = subst (View N language distinct d p) (one i (sees s e x) v n m) (record {
     starts_not = λ f. refl;
-    too_deep_lem = λ t f. absurd (h t f);
+    too_deep = λ t f. absurd (h t f);
     leaf = λ t l. absurd (h t (starts_leaf l));
     variable = λ y. absurd (h (a_variable s []) (subst (λ x. Starts s x (a_variable s [])) (sym y) starts_variable));
     list = λ y. absurd (h (a_list s nil) (subst (λ x. Starts s x (a_list s nil)) (sym y) starts_list));
@@ -144,7 +144,7 @@ module _ (N : ℕ → Sight → Type 0) (one : (i : ℕ) (v w : Sight) → N i v
   })
   view {d} {i} {p} (r_deep {s = s} {e = e} {x = x} {t = t} n h z) v m = subst (View N language distinct d p) (one i (sees s e x) v n m) (record {
     starts_not = λ f. absurd (f t h);
-    too_deep_lem = λ u f y. refl;
+    too_deep = λ u f y. refl;
     leaf = λ u l y. absurd (omega arith);
     variable = λ y g. absurd (omega arith);
     list = λ y g. absurd (omega arith);
@@ -152,7 +152,7 @@ module _ (N : ℕ → Sight → Type 0) (one : (i : ℕ) (v w : Sight) → N i v
   })
   view {d} {i} {p} (r_leaf {s = s} {e = e} {x = x} {t = t} n h l) v m = subst (View N language distinct d p) (one i (sees s e x) v n m) (record {
     starts_not = λ f. absurd (f t (starts_leaf l));
-    too_deep_lem = λ u f y. absurd (omega arith);
+    too_deep = λ u f y. absurd (omega arith);
     leaf = λ u k y. ap (got e) (one_leaf (number_at i s e x n) k l);
     variable = λ y. absurd (leaf_mark l dollar y);
     list = λ y. absurd (leaf_mark l open_bracket y);
@@ -160,7 +160,7 @@ module _ (N : ℕ → Sight → Type 0) (one : (i : ℕ) (v w : Sight) → N i v
   })
   view {d} {i} {p} (r_variable {s = s} {e = e} {v = w} n h k z) v m = subst (View N language distinct d p) (one i (sees s e (a_mark dollar)) v n m) (record {
     starts_not = λ f. absurd (f _ starts_variable);
-    too_deep_lem = λ t f y. absurd (omega arith);
+    too_deep = λ t f y. absurd (omega arith);
     leaf = λ t l y. absurd (leaf_mark l dollar refl);
     variable = λ y g. (w, k, z);
     list = λ y. let w : ◌≡◌ {A = ℕ} 0 1 = cc in absurd (omega arith);
@@ -168,7 +168,7 @@ module _ (N : ℕ → Sight → Type 0) (one : (i : ℕ) (v w : Sight) → N i v
   })
   view {d} {i} {p} (r_list {s = s} {e = e} {q = q} n h r z) v m = subst (View N language distinct d p) (one i (sees s e (a_mark open_bracket)) v n m) (record {
     starts_not = λ f. absurd (f _ starts_list);
-    too_deep_lem = λ t f y. absurd (omega arith);
+    too_deep = λ t f y. absurd (omega arith);
     leaf = λ t l y. absurd (leaf_mark l open_bracket refl);
     variable = λ y. let w : ◌≡◌ {A = ℕ} 0 1 = cc in absurd (omega arith);
     list = λ y g. (q, r, z);
@@ -176,7 +176,7 @@ module _ (N : ℕ → Sight → Type 0) (one : (i : ℕ) (v w : Sight) → N i v
   })
   view {d} {i} {p} (r_object {s = s} {e = e} {q = q} n h r z) v m = subst (View N language distinct d p) (one i (sees s e (a_mark open_brace)) v n m) (record {
     starts_not = λ f. absurd (f _ starts_object);
-    too_deep_lem = λ t f y. absurd (omega arith);
+    too_deep = λ t f y. absurd (omega arith);
     leaf = λ t l y. absurd (leaf_mark l open_brace refl);
     variable = λ y. let w : ◌≡◌ {A = ℕ} 0 1 = cc in absurd (omega arith);
     list = λ y. let w : ◌≡◌ {A = ℕ} 0 1 = cc in absurd (omega arith);
@@ -257,7 +257,7 @@ module _ (N : ℕ → Sight → Type 0) (one : (i : ℕ) (v w : Sight) → N i v
     pub same : {d i : ℕ} {o p : Out Raw} → Reads N language distinct d i o → Reads N language distinct d i p → o ≡ p
     same (r_blind {f = f} n) q = view q (blind f) n
     same (r_none {s = s} {e = e} {x = x} n h) q = (view q (sees s e x) n).starts_not h
-    same (r_deep {s = s} {e = e} {x = x} {t = t} n h z) q = (view q (sees s e x) n).too_deep_lem t h z
+    same (r_deep {s = s} {e = e} {x = x} {t = t} n h z) q = (view q (sees s e x) n).too_deep t h z
     same (r_leaf {s = s} {e = e} {x = x} {t = t} n h l) q = (view q (sees s e x) n).leaf t l h
     same (r_variable {s = s} {e = e} {v = v} n h m z) q =
         let w = (view q (sees s e (a_mark dollar)) n).variable refl h in

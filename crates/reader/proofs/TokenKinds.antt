@@ -128,7 +128,7 @@ no_variable language text i j x (Text w p) s b e n h = ap (λ y. as_variable s (
 no_variable language text i j x End s b e n h = ap (λ y. as_variable s (sees b e y)) h.0
 
 -- the tokens that are no names of members
-pub no_name_json : (text : List ℕ) (i j : ℕ) (x : Lexical) (t : Token) → ((w : denote.Ref.MutBor (List ℕ)) (p : Bool) → t ≡ Text w p → ⊥) → Holds Json text i j (view_of t) x → name_of Json x ≡ none
+pub no_name_json : (text : List ℕ) (i j : ℕ) (x : Lexical) (t : Token) → ((w : denote.Ref.Bor (List ℕ)) (p : Bool) → t ≡ Text w p → ⊥) → Holds Json text i j (view_of t) x → name_of Json x ≡ none
 no_name_json text i j x Bang n h = ap (name_of Json) h
 no_name_json text i j x Dollar n h = ap (name_of Json) h
 no_name_json text i j x Ampersand n h = ap (name_of Json) h
@@ -150,7 +150,7 @@ no_name_json text i j x (Decimal w) n h = ap (name_of Json) h.0
 no_name_json text i j x (Text w p) n h = absurd (n w p refl)
 no_name_json text i j x End n h = ap (name_of Json) h.0
 
-pub no_name_graphql : (text : List ℕ) (i j : ℕ) (x : Lexical) (t : Token) → ((w : denote.Ref.MutBor (List ℕ)) → t ≡ Name w → ⊥) → Holds Graphql text i j (view_of t) x → name_of Graphql x ≡ none
+pub no_name_graphql : (text : List ℕ) (i j : ℕ) (x : Lexical) (t : Token) → ((w : denote.Ref.Bor (List ℕ)) → t ≡ Name w → ⊥) → Holds Graphql text i j (view_of t) x → name_of Graphql x ≡ none
 no_name_graphql text i j x Bang n h = ap (name_of Graphql) h
 no_name_graphql text i j x Dollar n h = ap (name_of Graphql) h
 no_name_graphql text i j x Ampersand n h = ap (name_of Graphql) h

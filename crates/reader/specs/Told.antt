@@ -170,7 +170,7 @@ NewTold distinct text pool base before after name (Ok false) = (ns : List Name) 
 NewTold distinct text pool base before after name (Err f) = f ≡ NoMemory
 
 -- the part of the text or of the pool that is a name, or that the token is none
-abbrev pub NamePartTold : Language → (text before after : List ℕ) → ℕ → Lexical → Result PartMut Fault → Type 0
+abbrev pub NamePartTold : Language → (text before after : List ℕ) → ℕ → Lexical → Result Part Fault → Type 0
 NamePartTold language text before after start x (Ok p) = (n : Name) × (name_of language x ≡ some n) × PartFor text before after n p
 NamePartTold language text before after start x (Err f) = Blames f (λ g. (g ≡ BadText start) × (name_of language x ≡ none))
 

@@ -56,7 +56,7 @@ fn positive(text: &[u8], at: usize) -> bool
 fn whole_form(text: &[u8]) -> bool
     ensures { Decides result (WholeForm text.now) }
 {
-    if text == b"0" {
+    if text == b"0".as_slice() {
         return true;
     }
     if text.is_empty() || text[0] != b'-' {
@@ -69,7 +69,7 @@ fn whole_form(text: &[u8]) -> bool
 fn zero(body: &[u8]) -> bool
     ensures { Decides result (body.now ≡ zero_body) }
 {
-    body == b"\0\0\0\0\00"
+    body == b"\0\0\0\0\00".as_slice()
 }
 
 // A decimal in normal form: the sign, the exponent in four bytes, the digits.

@@ -74,7 +74,7 @@ fn kind_for(kind: u8) -> Kind
 fn flag_for(kind: u8, body: &[u8]) -> bool
     ensures { OfRecord (λ t. result ≡ flag_of t) kind body.now }
 {
-    kind == BOOLEAN && body == b"\x01"
+    kind == BOOLEAN && body == b"\x01".as_slice()
 }
 
 fn text_for(kind: u8, body: &[u8]) -> &[u8]

@@ -20,23 +20,23 @@ only_memory ds before after k (TooDeep p) n t = absurd t
 only_memory ds before after k (NoSpace p) n t = absurd t
 only_memory ds before after k (RepeatedName p) n t = absurd t
 
-pub returns-in-err-scale : goal.returns-in-err-scale
-returns-in-err-scale c text =
-    let p = err_from_is_err_and c.from-residual.result c.from-residual.ensures.1 in
-    rw (p.1, p.2) (only_memory _ _ _ _ _ c.requires c.in-err-scale.ensures)
+pub returns-in_err-scale : goal.returns-in_err-scale
+returns-in_err-scale c text =
+    let p = err_from_is_err_and c.from_residual.result c.from_residual.ensures.1 in
+    rw (p.1, p.2) (only_memory _ _ _ _ _ c.requires c.in_err-scale.ensures)
 
 pub returns : goal.returns
 returns c text =
-    let a = c.in-ok-scale.ensures in
-    let d : Dec = record { negative = c.in-ok-scale.scale.negative; exponent = c.in-ok-scale.scale.exponent; digits = a.digits } in
+    let a = c.in_ok-scale.ensures in
+    let d : Dec = record { negative = c.in_ok-scale.scale.negative; exponent = c.in_ok-scale.scale.exponent; digits = a.digits } in
     let before = vec_items c.args.pool.now in
     let after = vec_items c.normal.new.out in
     let l : c.len-from.result ≡ length before = c.len-from.ensures ∙ c.args.pool.now.ok.0 in
     let m : c.len.result ≡ length after = c.len.ensures ∙ c.normal.new.out.ok.0 in
-    let q = pool_part text before a.digits after c.of-pool.result a.added (c.of-pool.ensures ∙ (λ i. record { start = l i; end = m i; pooled = mathlib.Core.Bool.true })) in
+    let q = pool_part text before a.digits after c.of_pool.result a.added (c.of_pool.ensures ∙ (λ i. record { start = l i; end = m i; pooled = mathlib.Core.Bool.true })) in
     record {
       tree = scalar c.args.start (decimal d);
       leaf = l_decimal a.normal;
-      node = node_for text before after Decimal c.args.start c.args.name c.new.result c.new.result.flag c.in-ok-scale.scale c.of-pool.result (scalar c.args.start (decimal d)) c.new.ensures refl refl
+      node = node_for text before after Decimal c.args.start c.args.name c.new.result c.new.result.flag c.in_ok-scale.scale c.of_pool.result (scalar c.args.start (decimal d)) c.new.ensures refl refl
           (ap (λ (n : Node). n.flag) c.new.ensures) refl refl q.0 q.1 a.digits a.added;
     }

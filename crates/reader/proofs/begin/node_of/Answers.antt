@@ -15,17 +15,17 @@ use Rattle.reader.proofs.Leaves.{node_for, bare_node}
 use Rattle.reader.proofs.Beginning.{holds_as, start_node, leaf_start, leaf_told, no_memory, no_start, other_of}
 use Rattle.reader.proofs.begin.node_of.Goals as goal
 
-pub decimal-node-requires : goal.decimal-node-requires
-decimal-node-requires c =
+pub decimal_node-requires : goal.decimal_node-requires
+decimal_node-requires c =
     let k = c.requires.1 in
     let h = holds_as k (Decimal c.in-Decimal.spelled) c.in-Decimal.is in
     token_numeral c.args.language _ _ _ _ (subst (λ (x : Lexical). TokenOf c.args.language (drop c.args.lexeme.start c.requires.0) x (drop c.args.lexeme.end c.requires.0)) h.0 k.reads)
 
-pub returns-in-err-text : goal.returns-in-err-text
-returns-in-err-text c text k =
+pub returns-in_err-text-in-Text : goal.returns-in_err-text-in-Text
+returns-in_err-text-in-Text c text k =
     let h = holds_as k (Text c.in-Text.raw c.in-Text.plain) c.in-Text.is in
-    let p = err_from_is_err_and c.from-residual.result c.from-residual.ensures.1 in
-    rw (p.1, p.2) (no_memory text [] [] c.args.name c.args.lexeme.start k.token _ (c.in-err-text.ensures text h.1.0 h.0 h.1.2))
+    let p = err_from_is_err_and c.from_residual.result c.from_residual.ensures.1 in
+    rw (p.1, p.2) (no_memory text [] [] c.args.name c.args.lexeme.start k.token _ (c.in_err-text-in-Text.ensures text h.1.0 h.0 h.1.2))
 
 pub returns-in-OpenBracket : goal.returns-in-OpenBracket
 returns-in-OpenBracket c text k =
@@ -51,28 +51,28 @@ returns-in-Dollar c text k =
 pub returns-in-Name : goal.returns-in-Name
 returns-in-Name c text k =
     let h = holds_as k (Name c.in-Name.word) c.in-Name.is in
-    leaf_start h.0 (c.word-node.ensures text _ k.ordered k.within h.1)
+    leaf_start h.0 (c.word_node.ensures text _ k.ordered k.within h.1)
 
 pub returns-in-Whole : goal.returns-in-Whole
 returns-in-Whole c text k =
     let h = holds_as k (Whole c.in-Whole.spelled) c.in-Whole.is in
-    leaf_start h.0 (c.whole-node.ensures text _ k.ordered k.within h.1)
+    leaf_start h.0 (c.whole_node.ensures text _ k.ordered k.within h.1)
 
 pub returns-in-Decimal : goal.returns-in-Decimal
 returns-in-Decimal c text k =
     let h = holds_as k (Decimal c.in-Decimal.spelled) c.in-Decimal.is in
-    leaf_told text _ _ _ _ _ _ _ h.0 (c.decimal-node.ensures text)
+    leaf_told text _ _ _ _ _ _ _ h.0 (c.decimal_node.ensures text)
 
-pub returns-in-ok-text : goal.returns-in-ok-text
-returns-in-ok-text c text k =
+pub returns-in_ok-text-in-Text : goal.returns-in_ok-text-in-Text
+returns-in_ok-text-in-Text c text k =
     let h = holds_as k (Text c.in-Text.raw c.in-Text.plain) c.in-Text.is in
-    let p = c.in-ok-text.ensures text h.1.0 h.0 h.1.2 in
+    let p = c.in_ok-text-in-Text.ensures text h.1.0 h.0 h.1.2 in
     let s = c.args.lexeme.start in
     let n = c.new-in-Text.result in
     start_node h.1.1 (starts_leaf (l_string refl))
-    (node_for text _ _ String s c.args.name n n.flag n.scale c.in-ok-text.text (scalar s (string (encodes h.1.0))) c.new-in-Text.ensures refl refl
+    (node_for text _ _ String s c.args.name n n.flag n.scale c.in_ok-text-in-Text.text (scalar s (string (encodes h.1.0))) c.new-in-Text.ensures refl refl
     (ap (λ (n : Node). n.flag) c.new-in-Text.ensures) (ap (λ (n : Node). n.scale.negative) c.new-in-Text.ensures) (ap (λ (n : Node). n.scale.exponent) c.new-in-Text.ensures)
     p.fits p.is p.more p.grown)
 
-pub returns-in-default : goal.returns-in-default
-returns-in-default c text k = (refl, no_start c.args.language text c.args.lexeme.start c.args.lexeme.end _ k.token c.args.lexeme.token (other_of _ c.in-default.not-Dollar c.in-default.not-OpenBracket c.in-default.not-OpenBrace c.in-default.not-Name c.in-default.not-Whole c.in-default.not-Decimal c.in-default.not-Text) k.holds)
+pub returns-in_default : goal.returns-in_default
+returns-in_default c text k = (refl, no_start c.args.language text c.args.lexeme.start c.args.lexeme.end _ k.token c.args.lexeme.token (other_of _ c.in_default.not-Dollar c.in_default.not-OpenBracket c.in_default.not-OpenBrace c.in_default.not-Name c.in_default.not-Whole c.in_default.not-Decimal c.in_default.not-Text) k.holds)

@@ -19,11 +19,11 @@ only_memory language raw before after cs (RepeatedName p) n t = absurd t
 
 pub returns : goal.returns
 returns c text cs e w =
-    let a = c.in-ok-decode.ensures in
+    let a = c.in_ok-decode.ensures in
     let before = vec_items c.args.pool.now in
     let after = vec_items c.decode.new.out in
     let l : c.len-from.result ≡ length before = c.len-from.ensures ∙ c.args.pool.now.ok.0 in
     let m : c.len.result ≡ length after = c.len.ensures ∙ c.decode.new.out.ok.0 in
-    let q = pool_part text before (encodes a.chars) after c.of-pool.result a.added (c.of-pool.ensures ∙ (λ i. record { start = l i; end = m i; pooled = mathlib.Core.Bool.true })) in
+    let q = pool_part text before (encodes a.chars) after c.of_pool.result a.added (c.of_pool.ensures ∙ (λ i. record { start = l i; end = m i; pooled = mathlib.Core.Bool.true })) in
     let same : a.chars ≡ cs = a.only cs (subst (λ x. Chars c.args.language x cs) (sym e) (subst (Chars c.args.language _) w.same w.scanned.inside)) in
     record { fits = q.0; is = q.1 ∙ ap encodes same; more = encodes a.chars; grown = a.added }

@@ -12,40 +12,40 @@ use Rattle.reader.proofs.Beginning.{holds_as}
 use Rattle.reader.proofs.TokenKinds.{not_last}
 use Rattle.reader.proofs.document.read_whole.Goals as goal
 
-pub returns-then-text-gt-LONGEST-TEXT : goal.returns-then-text-gt-LONGEST-TEXT
-returns-then-text-gt-LONGEST-TEXT c = whole_long c.if-text-gt-LONGEST-TEXT.true refl
+pub returns-then-text-gt-LONGEST_TEXT : goal.returns-then-text-gt-LONGEST_TEXT
+returns-then-text-gt-LONGEST_TEXT c = whole_long c.if-text-gt-LONGEST_TEXT.true refl
 
-pub returns-in-err-end : goal.returns-in-err-end
-returns-in-err-end c =
-    let p = err_from_is_err_and c.from-residual.result c.from-residual.ensures.1 in
+pub returns-in_err-end : goal.returns-in_err-end
+returns-in_err-end c =
+    let p = err_from_is_err_and c.from_residual.result c.from_residual.ensures.1 in
     rw (p.1, p.2)
     (blames_map (λ g. Reads (Sights c.args.manner.language c.args.text.now) c.args.manner.language c.args.manner.distinct 33 0 (fails g)) (FaultWhole c.args.manner c.args.text.now)
-    (λ g r. whole_read c.if-text-gt-LONGEST-TEXT.false (all_fails r)) _ c.in-err-end.ensures)
+    (λ g r. whole_read c.if-text-gt-LONGEST_TEXT.false (all_fails r)) _ c.in_err-end.ensures)
 
-pub returns-in-err-after : goal.returns-in-err-after
-returns-in-err-after c =
-    let a = c.in-ok-end.ensures in
-    let p = err_from_is_err_and c.from-residual-in-err-after.result c.from-residual-in-err-after.ensures.1 in
-    rw (p.1, p.2) (blames_all (FaultWhole c.args.manner c.args.text.now) _ (whole_read c.if-text-gt-LONGEST-TEXT.false (all_read {v = blind c.in-err-after.field-0.0} a.reads c.in-err-after.ensures refl)))
+pub returns-in_err-after : goal.returns-in_err-after
+returns-in_err-after c =
+    let a = c.in_ok-end.ensures in
+    let p = err_from_is_err_and c.from_residual-in_err-after.result c.from_residual-in_err-after.ensures.1 in
+    rw (p.1, p.2) (blames_all (FaultWhole c.args.manner c.args.text.now) _ (whole_read c.if-text-gt-LONGEST_TEXT.false (all_read {v = blind c.in_err-after.field-0.0} a.reads c.in_err-after.ensures refl)))
 
 pub returns-in-End : goal.returns-in-End
 returns-in-End c =
-    let a = c.in-ok-end.ensures in
-    let k = c.in-ok-after.ensures in
-    let l = c.in-ok-after.after in
+    let a = c.in_ok-end.ensures in
+    let k = c.in_ok-after.ensures in
+    let l = c.in_ok-after.after in
     let h = holds_as k.lexed End c.in-End.is in
     record {
       tree = a.tree;
       end = l.end;
-      short = c.if-text-gt-LONGEST-TEXT.false;
+      short = c.if-text-gt-LONGEST_TEXT.false;
       reads = all_read {v = sees l.start l.end k.lexed.token} a.reads k.seen (ap (λ (x : Lexical). after_all a.tree (sees l.start l.end x)) h.0);
       stands = subst (λ n. Stands (table_of c.args.text.now c.value.new.nodes) n a.tree) (ap length c.new-nodes.ensures.list) a.stands;
     }
 
 pub returns : goal.returns
 returns c =
-    let a = c.in-ok-end.ensures in
-    let k = c.in-ok-after.ensures in
-    let l = c.in-ok-after.after in
-    whole_read c.if-text-gt-LONGEST-TEXT.false
-    (all_read {v = sees l.start l.end k.lexed.token} a.reads k.seen (not_last c.args.manner.language c.args.text.now l.start l.end k.lexed.token l.token a.tree l.start l.end c.in-default.not-End k.lexed.holds))
+    let a = c.in_ok-end.ensures in
+    let k = c.in_ok-after.ensures in
+    let l = c.in_ok-after.after in
+    whole_read c.if-text-gt-LONGEST_TEXT.false
+    (all_read {v = sees l.start l.end k.lexed.token} a.reads k.seen (not_last c.args.manner.language c.args.text.now l.start l.end k.lexed.token l.token a.tree l.start l.end c.in_default.not-End k.lexed.holds))

@@ -9,88 +9,88 @@ use Rattle.reader.proofs.Naming.{part_length, name_fresh, name_known, colon_ther
 use Rattle.reader.proofs.TokenKinds.{mark_by, mark_some}
 use Rattle.reader.proofs.value.member_name.Goals as goal
 
-pub returns-in-err-lexeme : goal.returns-in-err-lexeme
-returns-in-err-lexeme c =
-    let p = err_from_is_err_and c.from-residual.result c.from-residual.ensures.1 in
-    record { list = refl; told = λ ns h. rw (p.1, p.2) (blames_all (λ g. NameAt _ _ _ ns _ (fails g)) _ (na_blind c.in-err-lexeme.ensures)) }
+pub returns-in_err-lexeme : goal.returns-in_err-lexeme
+returns-in_err-lexeme c =
+    let p = err_from_is_err_and c.from_residual.result c.from_residual.ensures.1 in
+    record { list = refl; told = λ ns h. rw (p.1, p.2) (blames_all (λ g. NameAt _ _ _ ns _ (fails g)) _ (na_blind c.in_err-lexeme.ensures)) }
 
-pub returns-in-err-name : goal.returns-in-err-name
-returns-in-err-name c =
-    let k = c.in-ok-lexeme.ensures in
-    let p = err_from_is_err_and c.from-residual-in-err-name.result c.from-residual-in-err-name.ensures.1 in
+pub returns-in_err-name : goal.returns-in_err-name
+returns-in_err-name c =
+    let k = c.in_ok-lexeme.ensures in
+    let p = err_from_is_err_and c.from_residual-in_err-name.result c.from_residual-in_err-name.ensures.1 in
     record {
       list = refl;
       told = λ ns h.
           rw (p.1, p.2)
           (blames_map _ (λ g. NameAt (Sights c.args.manner.language c.args.text.now) c.args.manner.language c.args.manner.distinct ns c.args.at (fails g))
           (λ g e. subst (λ (f : Fault). NameAt (Sights c.args.manner.language c.args.text.now) c.args.manner.language c.args.manner.distinct ns c.args.at (fails f)) (sym e.0) (na_none k.seen e.1))
-          _ (c.in-err-name.ensures c.args.text.now k.lexed));
+          _ (c.in_err-name.ensures c.args.text.now k.lexed));
     }
 
-pub returns-then-len-gt-LONGEST-NAME : goal.returns-then-len-gt-LONGEST-NAME
-returns-then-len-gt-LONGEST-NAME c =
-    let k = c.in-ok-lexeme.ensures in
-    let f = c.in-ok-name.ensures c.args.text.now k.lexed in
-    record { list = refl; told = λ ns h. na_long k.seen f.1 (omega (arith, part_length f.2, c.len.ensures, c.if-len-gt-LONGEST-NAME.true)) }
+pub returns-then-len-gt-LONGEST_NAME : goal.returns-then-len-gt-LONGEST_NAME
+returns-then-len-gt-LONGEST_NAME c =
+    let k = c.in_ok-lexeme.ensures in
+    let f = c.in_ok-name.ensures c.args.text.now k.lexed in
+    record { list = refl; told = λ ns h. na_long k.seen f.1 (omega (arith, part_length f.2, c.len.ensures, c.if-len-gt-LONGEST_NAME.true)) }
 
 pub returns-then-not-branch : goal.returns-then-not-branch
 returns-then-not-branch c =
-    let k = c.in-ok-lexeme.ensures in
-    let f = c.in-ok-name.ensures c.args.text.now k.lexed in
+    let k = c.in_ok-lexeme.ensures in
+    let f = c.in_ok-name.ensures c.args.text.now k.lexed in
     record {
       list = refl;
       told = λ ns h.
-          na_repeated k.seen f.1 (omega (arith, part_length f.2, c.len.ensures, c.if-len-gt-LONGEST-NAME.false))
-          (name_known c.args.manner.distinct c.args.text.now (vec_items c.args.nodes.now.pool) (vec_items c.name-part.new.pool) c.deref.result.now c.args.base _ (vec_items c.register.new.names.links) c.in-ok-name.name f.0 ns c.deref.ensures.value f.2 h _ c.if-not-branch.true c.in-ok-register.ensures);
+          na_repeated k.seen f.1 (omega (arith, part_length f.2, c.len.ensures, c.if-len-gt-LONGEST_NAME.false))
+          (name_known c.args.manner.distinct c.args.text.now (vec_items c.args.nodes.now.pool) (vec_items c.name_part.new.pool) c.deref.result.now c.args.base _ (vec_items c.register.new.names.links) c.in_ok-name.name f.0 ns c.deref.ensures.value f.2 h _ c.if-not-branch.true c.in_ok-register.ensures);
     }
 
-pub returns-in-err-colon : goal.returns-in-err-colon
-returns-in-err-colon c =
-    let k = c.in-ok-lexeme.ensures in
-    let f = c.in-ok-name.ensures c.args.text.now k.lexed in
-    let p = err_from_is_err_and c.from-residual-in-err-colon.result c.from-residual-in-err-colon.ensures.1 in
+pub returns-in_err-colon : goal.returns-in_err-colon
+returns-in_err-colon c =
+    let k = c.in_ok-lexeme.ensures in
+    let f = c.in_ok-name.ensures c.args.text.now k.lexed in
+    let p = err_from_is_err_and c.from_residual-in_err-colon.result c.from_residual-in_err-colon.ensures.1 in
     record {
       list = refl;
       told = λ ns h.
-          let r = name_fresh c.args.manner.distinct c.args.text.now (vec_items c.args.nodes.now.pool) (vec_items c.name-part.new.pool) c.deref.result.now c.args.base _ (vec_items c.register.new.names.links) c.in-ok-name.name f.0 ns c.deref.ensures.value f.2 h _ c.if-not-branch.false c.requires.base c.in-ok-register.ensures in
+          let r = name_fresh c.args.manner.distinct c.args.text.now (vec_items c.args.nodes.now.pool) (vec_items c.name_part.new.pool) c.deref.result.now c.args.base _ (vec_items c.register.new.names.links) c.in_ok-name.name f.0 ns c.deref.ensures.value f.2 h _ c.if-not-branch.false c.requires.base c.in_ok-register.ensures in
           rw (p.1, p.2)
           (blames_all (λ g. NameAt _ _ _ ns _ (fails g)) _
-          (na_name {v = blind c.in-err-colon.field-0.0} k.seen f.1 (omega (arith, part_length f.2, c.len.ensures, c.if-len-gt-LONGEST-NAME.false)) r.0 c.in-err-colon.ensures refl));
+          (na_name {v = blind c.in_err-colon.field-0.0} k.seen f.1 (omega (arith, part_length f.2, c.len.ensures, c.if-len-gt-LONGEST_NAME.false)) r.0 c.in_err-colon.ensures refl));
     }
 
-pub returns-then-not-is-colon : goal.returns-then-not-is-colon
-returns-then-not-is-colon c =
-    let k = c.in-ok-lexeme.ensures in
-    let j = c.in-ok-colon.ensures in
-    let l = c.in-ok-colon.colon in
-    let f = c.in-ok-name.ensures c.args.text.now k.lexed in
+pub returns-then-not-is_colon : goal.returns-then-not-is_colon
+returns-then-not-is_colon c =
+    let k = c.in_ok-lexeme.ensures in
+    let j = c.in_ok-colon.ensures in
+    let l = c.in_ok-colon.colon in
+    let f = c.in_ok-name.ensures c.args.text.now k.lexed in
     record {
       list = refl;
       told = λ ns h.
-          let r = name_fresh c.args.manner.distinct c.args.text.now (vec_items c.args.nodes.now.pool) (vec_items c.name-part.new.pool) c.deref.result.now c.args.base _ (vec_items c.register.new.names.links) c.in-ok-name.name f.0 ns c.deref.ensures.value f.2 h _ c.if-not-branch.false c.requires.base c.in-ok-register.ensures in
-          na_name {v = sees l.start l.end j.lexed.token} k.seen f.1 (omega (arith, part_length f.2, c.len.ensures, c.if-len-gt-LONGEST-NAME.false)) r.0 j.seen
-          (colon_lacks f.0 l.start l.end j.lexed.token (mark_by j.lexed colon c.is-colon.result false c.is-colon.ensures c.if-not-is-colon.true));
+          let r = name_fresh c.args.manner.distinct c.args.text.now (vec_items c.args.nodes.now.pool) (vec_items c.name_part.new.pool) c.deref.result.now c.args.base _ (vec_items c.register.new.names.links) c.in_ok-name.name f.0 ns c.deref.ensures.value f.2 h _ c.if-not-branch.false c.requires.base c.in_ok-register.ensures in
+          na_name {v = sees l.start l.end j.lexed.token} k.seen f.1 (omega (arith, part_length f.2, c.len.ensures, c.if-len-gt-LONGEST_NAME.false)) r.0 j.seen
+          (colon_lacks f.0 l.start l.end j.lexed.token (mark_by j.lexed colon c.is_colon.result false c.is_colon.ensures c.if-not-is_colon.true));
     }
 
 pub returns : goal.returns
 returns c =
-    let k = c.in-ok-lexeme.ensures in
-    let j = c.in-ok-colon.ensures in
-    let l = c.in-ok-colon.colon in
-    let f = c.in-ok-name.ensures c.args.text.now k.lexed in
+    let k = c.in_ok-lexeme.ensures in
+    let j = c.in_ok-colon.ensures in
+    let l = c.in_ok-colon.colon in
+    let f = c.in_ok-name.ensures c.args.text.now k.lexed in
     record {
       list = refl;
       told = λ ns h.
-          let r = name_fresh c.args.manner.distinct c.args.text.now (vec_items c.args.nodes.now.pool) (vec_items c.name-part.new.pool) c.deref.result.now c.args.base _ (vec_items c.register.new.names.links) c.in-ok-name.name f.0 ns c.deref.ensures.value f.2 h _ c.if-not-branch.false c.requires.base c.in-ok-register.ensures in
+          let r = name_fresh c.args.manner.distinct c.args.text.now (vec_items c.args.nodes.now.pool) (vec_items c.name_part.new.pool) c.deref.result.now c.args.base _ (vec_items c.register.new.names.links) c.in_ok-name.name f.0 ns c.deref.ensures.value f.2 h _ c.if-not-branch.false c.requires.base c.in_ok-register.ensures in
           record {
             name = f.0;
-            reads = na_name {v = sees l.start l.end j.lexed.token} k.seen f.1 (omega (arith, part_length f.2, c.len.ensures, c.if-len-gt-LONGEST-NAME.false)) r.0 j.seen
-                (colon_there f.0 l.start l.end j.lexed.token (mark_by j.lexed colon c.is-colon.result true c.is-colon.ensures c.if-not-is-colon.false));
+            reads = na_name {v = sees l.start l.end j.lexed.token} k.seen f.1 (omega (arith, part_length f.2, c.len.ensures, c.if-len-gt-LONGEST_NAME.false)) r.0 j.seen
+                (colon_there f.0 l.start l.end j.lexed.token (mark_by j.lexed colon c.is_colon.result true c.is_colon.ensures c.if-not-is_colon.false));
             part = f.2;
             held = r.1;
             below = r.2;
             within = r.3;
-            forward = omega (arith, k.onward c.requires.within, k.lexed.ordered, j.onward k.lexed.within, mark_some j.lexed colon c.is-colon.result c.is-colon.ensures c.if-not-is-colon.false);
+            forward = omega (arith, k.onward c.requires.within, k.lexed.ordered, j.onward k.lexed.within, mark_some j.lexed colon c.is_colon.result c.is_colon.ensures c.if-not-is_colon.false);
             inside = j.lexed.within;
           };
     }

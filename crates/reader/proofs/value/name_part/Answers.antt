@@ -20,4 +20,4 @@ named language text before after cs start x (Err f) e g t = subst (λ (h : Fault
 pub returns-in-Json-Text : goal.returns-in-Json-Text
 returns-in-Json-Text c text k =
     let h = holds_as k (Text c.in-Json-Text.raw c.in-Json-Text.plain) c.in-Json-Text.is-1 in
-    named c.args.language text _ _ h.1.0 c.args.lexeme.start k.token c.string-part.result c.in-Json-Text.is-0 h.1.1 (c.string-part.ensures text h.1.0 h.0 h.1.2)
+    named c.args.language text _ _ h.1.0 c.args.lexeme.start k.token c.string_part.result c.in-Json-Text.is-0 h.1.1 (c.string_part.ensures text h.1.0 h.0 h.1.2)

@@ -10,15 +10,15 @@ use Rattle.reader.specs.Closings.{mark_of}
 use Rattle.reader.proofs.TokenKinds.{mark_by, mark_some, turn_closes, turn_goes, turn_comma, turn_bad, turn_blind}
 use Rattle.reader.proofs.value.step.Goals as goal
 
-pub returns-in-err-lexeme : goal.returns-in-err-lexeme
-returns-in-err-lexeme c =
-    let p = err_from_is_err_and c.from-residual.result c.from-residual.ensures.1 in
-    rw (p.1, p.2) (blind c.in-err-lexeme.field-0.0, c.in-err-lexeme.ensures, turn_blind c.args.language (mark_of c.args.closing) c.args.at _)
+pub returns-in_err-lexeme : goal.returns-in_err-lexeme
+returns-in_err-lexeme c =
+    let p = err_from_is_err_and c.from_residual.result c.from_residual.ensures.1 in
+    rw (p.1, p.2) (blind c.in_err-lexeme.field-0.0, c.in_err-lexeme.ensures, turn_blind c.args.language (mark_of c.args.closing) c.args.at _)
 
 pub returns-then-closes : goal.returns-then-closes
 returns-then-closes c =
-    let k = c.in-ok-lexeme.ensures in
-    let l = c.in-ok-lexeme.lexeme in
+    let k = c.in_ok-lexeme.ensures in
+    let l = c.in_ok-lexeme.lexeme in
     let e = mark_by k.lexed (mark_of c.args.closing) c.closes.result true c.closes.ensures c.if-closes.true in (
       sees l.start l.end k.lexed.token,
       k.seen,
@@ -27,8 +27,8 @@ returns-then-closes c =
 
 pub returns-in-Graphql : goal.returns-in-Graphql
 returns-in-Graphql c =
-    let k = c.in-ok-lexeme.ensures in
-    let l = c.in-ok-lexeme.lexeme in
+    let k = c.in_ok-lexeme.ensures in
+    let l = c.in_ok-lexeme.lexeme in
     let x = k.lexed.token in
     let e = mark_by k.lexed (mark_of c.args.closing) c.closes.result false c.closes.ensures c.if-closes.false in (
       sees l.start l.end x,
@@ -40,13 +40,13 @@ returns-in-Graphql c =
       ),
     )
 
-pub returns-then-is-comma : goal.returns-then-is-comma
-returns-then-is-comma c =
-    let k = c.in-ok-lexeme.ensures in
-    let l = c.in-ok-lexeme.lexeme in
+pub returns-then-is_comma : goal.returns-then-is_comma
+returns-then-is_comma c =
+    let k = c.in_ok-lexeme.ensures in
+    let l = c.in_ok-lexeme.lexeme in
     let x = k.lexed.token in
     let e = mark_by k.lexed (mark_of c.args.closing) c.closes.result false c.closes.ensures c.if-closes.false in
-    let f = mark_by k.lexed comma c.is-comma.result true c.is-comma.ensures c.if-is-comma.true in (
+    let f = mark_by k.lexed comma c.is_comma.result true c.is_comma.ensures c.if-is_comma.true in (
       sees l.start l.end x,
       k.seen,
       (
@@ -56,13 +56,13 @@ returns-then-is-comma c =
       ),
     )
 
-pub returns-else-is-comma : goal.returns-else-is-comma
-returns-else-is-comma c =
-    let k = c.in-ok-lexeme.ensures in
-    let l = c.in-ok-lexeme.lexeme in
+pub returns-else-is_comma : goal.returns-else-is_comma
+returns-else-is_comma c =
+    let k = c.in_ok-lexeme.ensures in
+    let l = c.in_ok-lexeme.lexeme in
     let x = k.lexed.token in
     let e = mark_by k.lexed (mark_of c.args.closing) c.closes.result false c.closes.ensures c.if-closes.false in
-    let f = mark_by k.lexed comma c.is-comma.result false c.is-comma.ensures c.if-is-comma.false in (
+    let f = mark_by k.lexed comma c.is_comma.result false c.is_comma.ensures c.if-is_comma.false in (
       sees l.start l.end x,
       k.seen,
       subst (λ (g : Language). turn g (mark_of c.args.closing) c.args.at (sees l.start l.end x) ≡ halts (BadText l.start)) (sym c.in-Json.is) (turn_bad (mark_of c.args.closing) c.args.at l.start l.end x e f),

@@ -15,27 +15,27 @@ use Rattle.reader.proofs.Tables.{Pushed, pushed_keeps, pushed_long, pushed_node,
 use Rattle.reader.proofs.TokenKinds.{no_variable}
 use Rattle.reader.proofs.value.variable.Goals as goal
 
-pub returns-in-err-lexeme : goal.returns-in-err-lexeme
-returns-in-err-lexeme c d i name room o =
-    let p = err_from_is_err_and c.from-residual.result c.from-residual.ensures.1 in
-    rw (p.1, p.2) (blames_all (λ g. Reads _ _ _ d i (fails g)) _ (r_variable {v = blind c.in-err-lexeme.field-0.0} o.seen room c.in-err-lexeme.ensures refl))
+pub returns-in_err-lexeme : goal.returns-in_err-lexeme
+returns-in_err-lexeme c d i name room o =
+    let p = err_from_is_err_and c.from_residual.result c.from_residual.ensures.1 in
+    rw (p.1, p.2) (blames_all (λ g. Reads _ _ _ d i (fails g)) _ (r_variable {v = blind c.in_err-lexeme.field-0.0} o.seen room c.in_err-lexeme.ensures refl))
 
-pub returns-in-default : goal.returns-in-default
-returns-in-default c d i name room o =
-    let k = c.in-ok-lexeme.ensures in
-    let l = c.in-ok-lexeme.lexeme in
+pub returns-in_default : goal.returns-in_default
+returns-in_default c d i name room o =
+    let k = c.in_ok-lexeme.ensures in
+    let l = c.in_ok-lexeme.lexeme in
     r_variable {v = sees l.start l.end k.lexed.token} o.seen room k.seen
-    (no_variable c.args.manner.language c.args.text.now l.start l.end k.lexed.token l.token o.start l.start l.end c.in-default.not-Name k.lexed.holds)
+    (no_variable c.args.manner.language c.args.text.now l.start l.end k.lexed.token l.token o.start l.start l.end c.in_default.not-Name k.lexed.holds)
 
 pub returns : goal.returns
 returns c d i name room o =
-    let k = c.in-ok-lexeme.ensures in
-    let l = c.in-ok-lexeme.lexeme in
+    let k = c.in_ok-lexeme.ensures in
+    let l = c.in_ok-lexeme.lexeme in
     let w = c.in-Name.field-0 in
     let h = holds_as k.lexed (Name w) c.in-Name.is in
     let T = table_of c.args.text.now c.args.nodes.now in
-    let q = text_part T.text T.pool l.start l.end c.of-text.result c.of-text.ensures k.lexed.ordered k.lexed.within in
-    let p : Pushed T (table_of c.args.text.now c.add.new.self) _ = record { text = refl; pool = ap vec_items c.in-ok-add.ensures.pool; nodes = c.in-ok-add.ensures.told } in
+    let q = text_part T.text T.pool l.start l.end c.of_text.result c.of_text.ensures k.lexed.ordered k.lexed.within in
+    let p : Pushed T (table_of c.args.text.now c.add.new.self) _ = record { text = refl; pool = ap vec_items c.in_ok-add.ensures.pool; nodes = c.in_ok-add.ensures.told } in
     let says : Says T _ (variable o.start w.now) = record {
       kind = o.says.kind;
       place = o.place;
@@ -47,5 +47,5 @@ returns c d i name room o =
     } in
     leaf_added (variable o.start w.now) _ _
     (r_variable {v = sees l.start l.end k.lexed.token} o.seen room k.seen (ap (λ (x : Lexical). as_variable o.start (sees l.start l.end x)) h.0))
-    p o.size o.named (leaf_head p says o.size, ap (λ (n : Node). n.size) (pushed_node p) ∙ o.size) (ap (λ (n : Names). vec_items n.links) c.in-ok-add.ensures.names)
+    p o.size o.named (leaf_head p says o.size, ap (λ (n : Node). n.size) (pushed_node p) ∙ o.size) (ap (λ (n : Names). vec_items n.links) c.in_ok-add.ensures.names)
     (omega (arith, o.forward, k.onward c.requires, k.lexed.ordered)) k.lexed.within

@@ -8,16 +8,16 @@ pub returns : goal.returns
 returns c =
     let count : c.size-count.result ≡ length (opened c.args.body) = omega arith in
     let v = written c.args.self.now in
-    let w = written c.put-name.new.self in
-    let head : written c.put-header.new.self ≡ w ++ header (length (opened c.args.body)) (kind_of c.args.body) =
-    c.put-header.ensures.items ∙ ap (λ n. w ++ header n c.kind.result) count ∙ ap (λ k. w ++ header (length (opened c.args.body)) k) c.kind.ensures in
-    let tail = both w (written c.put-header.new.self) _ _ (opened c.args.body) _ head c.put-body.ensures.items refl in
+    let w = written c.put_name.new.self in
+    let head : written c.put_header.new.self ≡ w ++ header (length (opened c.args.body)) (kind_of c.args.body) =
+    c.put_header.ensures.items ∙ ap (λ n. w ++ header n c.kind.result) count ∙ ap (λ k. w ++ header (length (opened c.args.body)) k) c.kind.ensures in
+    let tail = both w (written c.put_header.new.self) _ _ (opened c.args.body) _ head c.put_body.ensures.items refl in
     record {
       opened = record {
-        items = both v w _ (named c.args.name) _ _ c.put-name.ensures.items tail refl;
-        at = c.put-name.ensures.used;
-        used = omega (arith, c.put-header.ensures.used, c.put-body.ensures.used);
+        items = both v w _ (named c.args.name) _ _ c.put_name.ensures.items tail refl;
+        at = c.put_name.ensures.used;
+        used = omega (arith, c.put_header.ensures.used, c.put_body.ensures.used);
       };
-      kept = kept_on _ _ _ (kept_on _ _ _ c.put-name.ensures.kept c.put-header.ensures.kept) c.put-body.ensures.kept;
-      same = c.put-body.ensures.same ∙ c.put-header.ensures.same ∙ c.put-name.ensures.same;
+      kept = kept_on _ _ _ (kept_on _ _ _ c.put_name.ensures.kept c.put_header.ensures.kept) c.put_body.ensures.kept;
+      same = c.put_body.ensures.same ∙ c.put_header.ensures.same ∙ c.put_name.ensures.same;
     }

@@ -7,8 +7,8 @@ pub returns : goal.returns
 returns c =
     let v = c.args.self.now in
     let n = length c.args.more.now in
-    let ys = c.copy-from-slice.new.self in
-    let copied = c.copy-from-slice.ensures.after in
+    let ys = c.copy_from_slice.new.self in
+    let copied = c.copy_from_slice.ensures.after in
     let long = length-put_mid v.used (v.used + n - v.used) v.bytes.now ys (ap length copied ∙ omega arith) (omega arith) in
     record {
       items = take-put_mid v.used (v.used + n - v.used) v.bytes.now ys (v.used + n) (omega (arith, ap length copied)) (omega arith) ∙ ap (λ zs. take v.used v.bytes.now ++ zs) copied;

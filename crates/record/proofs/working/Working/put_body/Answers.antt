@@ -9,10 +9,10 @@ returns-in-Decimal c =
     let f : SFits w32 c.in-Decimal.exponent = search rules in
     let s = ap (scale c.in-Decimal.negative) (to_z-of_z f) in
     let e = ap opened c.in-Decimal.is in
-    let start = c.put-scale.ensures.items ∙ ap (λ z. written c.args.self.now ++ z) s in
+    let start = c.put_scale.ensures.items ∙ ap (λ z. written c.args.self.now ++ z) s in
     record {
-      items = both _ (written c.put-scale.new.self) _ (scale c.in-Decimal.negative c.in-Decimal.exponent) c.in-Decimal.digits.now _ start c.put-in-Decimal.ensures.items e;
-      kept = kept_on _ _ _ c.put-scale.ensures.kept c.put-in-Decimal.ensures.kept;
-      used = omega (arith, c.put-scale.ensures.used, c.put-in-Decimal.ensures.used, ap length e);
-      same = c.put-in-Decimal.ensures.same ∙ c.put-scale.ensures.same;
+      items = both _ (written c.put_scale.new.self) _ (scale c.in-Decimal.negative c.in-Decimal.exponent) c.in-Decimal.digits.now _ start c.put-in-Decimal.ensures.items e;
+      kept = kept_on _ _ _ c.put_scale.ensures.kept c.put-in-Decimal.ensures.kept;
+      used = omega (arith, c.put_scale.ensures.used, c.put-in-Decimal.ensures.used, ap length e);
+      same = c.put-in-Decimal.ensures.same ∙ c.put_scale.ensures.same;
     }

@@ -7,8 +7,8 @@ pub returns-in-Some : goal.returns-in-Some
 returns-in-Some c =
     let e = ap named c.in-Some.is in
     record {
-      items = both _ _ _ _ _ _ c.put-header.ensures.items c.put.ensures.items e;
-      kept = kept_on _ _ _ c.put-header.ensures.kept c.put.ensures.kept;
-      used = omega (arith, c.put-header.ensures.used, c.put.ensures.used, ap length e);
-      same = c.put.ensures.same ∙ c.put-header.ensures.same;
+      items = both _ _ _ _ _ _ c.put_header.ensures.items c.put.ensures.items e;
+      kept = kept_on _ _ _ c.put_header.ensures.kept c.put.ensures.kept;
+      used = omega (arith, c.put_header.ensures.used, c.put.ensures.used, ap length e);
+      same = c.put.ensures.same ∙ c.put_header.ensures.same;
     }
