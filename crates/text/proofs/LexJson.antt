@@ -1,7 +1,7 @@
 -- The tokens of JSON by their first byte.
 use Rattle.std.proofs.Common.{◌≡◌, ℕ, ◌+◌, ◌-◌, ◌<◌, ◌≤◌, Bool, ◌≢◌, ◌⊎◌, List, [], ◌∷◌, ◌++◌, length, get_or, take, drop, sym, refl, ap, ◌∙◌, subst, inl, inr, ⊎_elim, arith}
 use lib.Seq.{take-append_seam}
-use Rattle.std.proofs.str.Laws.{order}
+use Rattle.std.proofs.lemmas.Bool.{cases_lt}
 use Rattle.text.specs.declared.language.Language.TheVariants.{Json}
 use Rattle.text.specs.declared.number.NumberKind.{NumberKind}
 use Rattle.text.specs.NumberScan.{Begins, Found, Unfinished}
@@ -32,7 +32,7 @@ pub space_stops : (text : List ℕ) (i : ℕ) → (i < length text → WhiteSpac
 space_stops text i n r j = ⊎_elim
     (λ h. n h (space_here (subst (λ l. JsonIgnored l r) (there text i h) j)).0)
     (λ h. no_space_lem (subst (λ l. JsonIgnored l r) (gone text i h) j))
-    (order i (length text))
+    (cases_lt i (length text))
 
 -- structural characters
 abbrev IsStructural : ℕ → Type 0

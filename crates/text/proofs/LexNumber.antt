@@ -1,7 +1,7 @@
 -- Numbers at the front of a list and in a text.
 use Rattle.std.proofs.Common.{◌≡◌, ℕ, ◌+◌, ◌-◌, ◌<◌, ◌≤◌, ◌≢◌, ◌⊎◌, List, [], ◌∷◌, ◌++◌, length, get_or, take, drop, Some, None, Ok, Err, sym, refl, ap, ◌∙◌, subst, inl, inr, ⊎_elim, append_assoc, append-nil, arith, length-append, length-drop}
 use lib.Seq.{take-append_seam, drop-append_seam}
-use Rattle.std.proofs.str.Laws.{order}
+use Rattle.std.proofs.lemmas.Bool.{cases_lt}
 use Rattle.std.proofs.lemmas.List.{drop-drop}
 use Rattle.std.proofs.lemmas.Bool.Decides.{nat_tests}
 use Rattle.text.specs.declared.fault.Fault.TheVariants.{BadText, TooDeep, NoSpace, RepeatedName, LongNumber, NoMemory}
@@ -155,7 +155,7 @@ dead exp_ends b p e f (inl h) = grind (arith, nat_tests, p, e, f, h)
 dead exp_ends b p e f (inr h) = grind (arith, nat_tests, p, e, f, h)
 
 outside : (b : ℕ) → (IsDigit b → ⊥) → (b < 48) ⊎ (57 < b)
-outside b n = ⊎_elim (λ h. inl h) (λ h. ⊎_elim (λ g. inr g) (λ g. absurd (n (h, g))) (order 57 b)) (order b 48)
+outside b n = ⊎_elim (λ h. inl h) (λ h. ⊎_elim (λ g. inr g) (λ g. absurd (n (h, g))) (cases_lt 57 b)) (cases_lt b 48)
 
 -- what may not follow a number of GraphQL is what would make it longer
 pub stops_number : {ds r : List ℕ} {k : NumberKind} → Number ds k → NotAhead NumberGoesOn r → NotAhead (λ b. Begins (ds ++ b ∷ [])) r

@@ -1,6 +1,6 @@
 -- What is ignored, one thing after another.
 use Rattle.std.proofs.Common.{◌≡◌, ℕ, ◌+◌, ◌-◌, ◌<◌, ◌≤◌, min, List, [], ◌∷◌, ◌++◌, length, get_or, drop, sym, refl, ap, ◌∙◌, subst, ⊎_elim, arith}
-use Rattle.std.proofs.str.Laws.{order}
+use Rattle.std.proofs.lemmas.Bool.{cases_lt}
 use Rattle.text.specs.declared.language.Language.{Language}
 use Rattle.text.specs.TokenGrammar.{Skips, skipped, skip, Ignored}
 use Rattle.text.specs.TokenFound.{Stops, Skipped, StepAt}
@@ -33,7 +33,7 @@ least text at here e =
     ⊎_elim
     (λ h. let f : at ≡ here = omega arith in ap (λ n. drop n text) f)
     (λ h. gone text at h ∙ sym (gone text here (omega arith)))
-    (order at (length text))
+    (cases_lt at (length text))
 
 pub skip_start : (language : Language) (text : List ℕ) (at here : ℕ) → here ≡ min at (length text) → SkipSofar language text at here
 skip_start language text at here e =

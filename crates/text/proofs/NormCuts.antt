@@ -1,6 +1,6 @@
 -- Where the runs of digits of a number end.
 use Rattle.std.proofs.Common.{◌≡◌, ℕ, zero, suc, ◌+◌, ◌-◌, ◌<◌, ◌≤◌, Bool, true, false, ◌≢◌, List, [], ◌∷◌, ◌++◌, length, get_or, take, drop, ℤ, sym, refl, ap, ◌∙◌, subst, ⊎_elim, arith, length-append, length-drop}
-use Rattle.std.proofs.str.Laws.{order}
+use Rattle.std.proofs.lemmas.Bool.{cases_lt}
 use Rattle.std.proofs.lemmas.List.{get_or_past, get_or-drop, get_or_append_left, get_or-append-add, take_at, drop_at, drop-drop, get_or-take, length-take-le}
 use Rattle.text.specs.declared.decimal.Parts.{Parts}
 use Rattle.text.specs.NumberGrammar.{IsDigit, Digits, none, digit, IsInt, zero_int, int, IsMark, small_e, great_e}
@@ -47,8 +47,8 @@ cut {text} {s} {p} i t d e w stop =
     let here : get_or text (s + length i) 0 ≡ get_or t 0 0 = at (length i) ∙ ap (λ n. get_or (i ++ t) n 0) (sym zero-at) ∙ get_or-append-add i t 0 0 in
     absurd (stop (omega (arith, d.within)) (subst IsDigit here (d.all (s + length i) (omega arith) (omega arith)))))
     (λ le. omega arith)
-    (order (length i) (p - s)))
-    (order (p - s) (length i))
+    (cases_lt (length i) (p - s)))
+    (cases_lt (p - s) (length i))
 
 pub cut_parts : {text : List ℕ} {s p : ℕ} (i t : List ℕ) → DigitsTo text s p → drop s text ≡ i ++ t → Digits i → Stops t → (part text s p ≡ i) × (drop p text ≡ t)
 cut_parts {text} {s} {p} i t d e w stop =
@@ -114,7 +114,7 @@ head_drop (x ∷ xs) zero = refl
 head_drop (x ∷ xs) (suc n) = head_drop xs n
 
 beyond : (xs : List ℕ) (n : ℕ) → (n < length xs → get_or xs n 0 ≢ 46) → get_or xs n 0 ≢ 46
-beyond xs n f e = ⊎_elim (λ h. f h e) (λ h. let z : get_or xs n 0 ≡ 0 = get_or_past xs n 0 h in omega arith) (order n (length xs))
+beyond xs n f e = ⊎_elim (λ h. f h e) (λ h. let z : get_or xs n 0 ≡ 0 = get_or_past xs n 0 h in omega arith) (cases_lt n (length xs))
 
 pub split_none : (text : List ℕ) (start point : ℕ) → DigitsTo text start point → (point < length text → get_or text point 0 ≢ 46) → Split text start (record { start = start; point = point; places = point; mark = point })
 split_none text start point d n =

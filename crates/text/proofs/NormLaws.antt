@@ -1,7 +1,7 @@
 -- Laws of what numbers write, and of their normal forms.
 use Rattle.std.proofs.Common.{◌≡◌, ℕ, zero, suc, ◌+◌, ◌-◌, ◌*◌, ◌^◌, ◌<◌, ◌≤◌, Bool, true, false, cond, eqb, ◌≢◌, ◌⊎◌, List, [], ◌∷◌, ◌++◌, length, get_or, take, drop, replicate, ℤ, pos, ◌-ℤ◌, neg_ℤ, sym, refl, ap, ◌∙◌, subst, inl, inr, ⊎_elim, append-nil, mul_assoc, mul-pos, zero-mul, mul-one, mul_right_comm, arith, length-append, length-drop, pow-add}
 use native.Mathlib.Nat.{eq_of_mul-eq-mul_right, pow-succ'}
-use Rattle.std.proofs.str.Laws.{order}
+use Rattle.std.proofs.lemmas.Bool.{cases_lt}
 use Rattle.std.proofs.lemmas.List.{take-append-drop, take_more, take_all, get_or-take, get_or-drop, length-take-le, get_or_append_left, length-replicate}
 use Rattle.std.proofs.lemmas.Int.{ints}
 use Rattle.std.proofs.lemmas.Bool.Decides.{nat_tests}
@@ -145,7 +145,7 @@ leveled : (a b k l : ℕ) (e f : ℤ) → e -ℤ pos k ≡ f -ℤ pos l → a * 
 leveled a b k l e f h s = ⊎_elim
     (λ lt. record { k = 0; l = l - k; least = inl refl; level = omega (arith, ints); same = mul-one a ∙ level_up a b k l (omega arith) s })
     (λ le. record { k = k - l; l = 0; least = inr refl; level = omega (arith, ints); same = sym (mul-one b ∙ level_up b a l k le (sym s)) })
-    (order k l)
+    (cases_lt k l)
 
 equal_itself : (a : ℕ) (e : ℤ) → Equal a e a e
 equal_itself a e = record { k = 0; l = 0; least = inl refl; level = refl; same = refl }
@@ -210,7 +210,7 @@ no_longer xs ys a b n e = ⊎_elim
     let up : 0 < value front = positive front (each_front d ys (omega arith) b) (λ h. n (sym (get_or-take d ys 0 0 (omega arith)) ∙ h)) (omega arith) in
     absurd (omega arith))
     (λ le. le)
-    (order (length xs) (length ys))
+    (cases_lt (length xs) (length ys))
 
 -- so digits with no zero before them are told by what they write
 value_tells : (xs ys : List ℕ) → Each xs → Each ys → get_or xs 0 0 ≢ 48 → get_or ys 0 0 ≢ 48 → value xs ≡ value ys → xs ≡ ys

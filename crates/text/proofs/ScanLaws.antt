@@ -1,6 +1,6 @@
 -- The contract of a scan has one answer.
 use Rattle.std.proofs.Common.{◌≡◌, ℕ, ◌+◌, ◌-◌, ◌<◌, ◌≤◌, ◌⊎◌, List, ◌++◌, length, take, drop, Ok, Err, Result, sym, refl, ap, ◌∙◌, subst, inl, inr, ⊎_elim, append_assoc, arith}
-use Rattle.std.proofs.str.Laws.{order}
+use Rattle.std.proofs.lemmas.Bool.{cases_lt}
 use Rattle.std.proofs.lemmas.List.{take-take, take-append-drop}
 use Rattle.text.specs.declared.fault.Fault.{Fault}
 use Rattle.text.specs.declared.fault.Fault.TheVariants.{BadText, TooDeep, NoSpace, RepeatedName, LongNumber, NoMemory}
@@ -26,8 +26,8 @@ same_end : {text : List ℕ} {at a b : ℕ} → Longest text at a → Longest te
 same_end {a = a} {b} l m =
     ⊎_elim
     (λ h. absurd (longer b l m.begins h (omega (arith, l.forward, m.within))))
-    (λ h. ⊎_elim (λ g. absurd (longer a m l.begins g (omega (arith, m.forward, l.within)))) (λ g. omega arith) (order b a))
-    (order a b)
+    (λ h. ⊎_elim (λ g. absurd (longer a m l.begins g (omega (arith, m.forward, l.within)))) (λ g. omega arith) (cases_lt b a))
+    (cases_lt a b)
 
 ends_kind : {s : State} {k l : NumberKind} → Ends s k → Ends s l → k ≡ l
 ends_kind zero_ends zero_ends = refl

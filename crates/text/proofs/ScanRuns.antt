@@ -2,7 +2,7 @@
 use Rattle.std.proofs.Common.{◌≡◌, ℕ, ◌+◌, ◌-◌, ◌*◌, ◌<◌, ◌≤◌, min, Bool, true, false, cond, ◌&&◌, ◌||◌, eqb, ltb, leb, ◌⊎◌, List, [], ◌∷◌, ◌++◌, length, get_or, take, drop, Some, None, Option, sym, refl, ap, ◌∙◌, subst, inl, inr, ⊎_elim, append_assoc, append-nil, arith, length-drop}
 use Rattle.std.proofs.lemmas.List.{take_more, get_or-drop}
 use Rattle.std.proofs.lemmas.Bool.Decides.{nat_tests}
-use Rattle.std.proofs.str.Laws.{order}
+use Rattle.std.proofs.lemmas.Bool.{cases_lt}
 use Rattle.text.specs.declared.number.NumberKind.{NumberKind}
 use Rattle.text.specs.declared.number.NumberKind.TheVariants.{Whole, Decimal}
 use Rattle.text.specs.declared.number.State.{State}
@@ -403,7 +403,7 @@ module _ {text : List ℕ} {at end : ℕ} {s : State} {v : ℕ} (r : Reached tex
       let z : end - at ≡ 0 = omega arith in
       let same = same_place (sym (ap (λ n. run start (take n (drop at text))) z) ∙ r.ran) in
       absurd (no_kind k (ap kind_in same.0 ∙ i)))
-      (order at end)
+      (cases_lt at end)
 
 module _ {text : List ℕ} {at end : ℕ} {s : State} {v : ℕ} (q : Rested text at end s v) where
   stopped : Longest text at end

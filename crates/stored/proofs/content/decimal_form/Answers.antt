@@ -24,4 +24,4 @@ returns-then-body-le-SCALE c =
 pub returns : goal.returns
 returns c =
     let told = c.zero.ensures in
-    decimal_form_lem c.args.body.now c.positive.result (λ e. untrue (sym c.if-zero.false ∙ told.1 e)) (omega arith) (omega arith) (λ e. omega arith) (λ k. (c.type-inv.body k).fits) c.positive.ensures
+    decimal_form_lem c.args.body.now c.positive.result (λ e. untrue (sym c.if-zero.false ∙ told.1 e)) (omega arith) (omega arith) (λ e. omega arith) (λ k. (c.type_inv.body k).fits) c.positive.ensures

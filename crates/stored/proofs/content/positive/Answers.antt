@@ -8,4 +8,4 @@ returns-then-at-text c =
     (λ t. absurd (untrue t), λ p. absurd (no_positive c.args.text.now c.args.at (λ h. elim c.then-at-text.branch [ then-at-text-via-then-at-text w ↦ absurd (omega arith) | then-at-text-via-else-at-text+then-text-at-eq48 w ↦ omega arith ]) p))
 
 pub returns : goal.returns
-returns c = positive_from c.args.text.now c.args.at c.all-digits.result c.if-at-text.false (λ e. omega arith) c.all-digits.ensures
+returns c = positive_from c.args.text.now c.args.at c.all_digits.result c.if-at-text.false (λ e. omega arith) c.all_digits.ensures

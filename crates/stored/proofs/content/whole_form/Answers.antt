@@ -4,24 +4,24 @@ use Rattle.std.proofs.lemmas.Bool.{eqb-true, eqb-false}
 use Rattle.text.specs.NormalForm.{whole_zero}
 use Rattle.stored.proofs.CoForms.{untrue, unsigned, signed}
 use Rattle.stored.proofs.content.whole_form.Goals as goal
-use Rattle.stored.proofs.content.whole_form.Goals.{then-is-empty-via-then-is-empty, then-is-empty-via-else-is-empty+then-text-ne45}
+use Rattle.stored.proofs.content.whole_form.Goals.{then-is_empty-via-then-is_empty, then-is_empty-via-else-is_empty+then-text-ne45}
 use Rattle.std.proofs.lemmas.Bool.Decides.{Decides-eqb}
 
 pub returns-then-eq : goal.returns-then-eq
 returns-then-eq c =
-    let told = slice_eq-Decides Decides-eqb c.args.text.now (48 ∷ []) c.eq.result c.eq.ensures in
-    (λ t. rw (told.0 c.if-eq.true) whole_zero, λ w. refl)
+    let told = slice_eq-Decides Decides-eqb c.args.text.now c.as_slice.result.now c.eq.result c.eq.ensures in
+    (λ t. rw (told.0 c.if-eq.true ∙ c.as_slice.ensures) whole_zero, λ w. refl)
 
-pub returns-then-is-empty : goal.returns-then-is-empty
-returns-then-is-empty c =
-    let told = slice_eq-Decides Decides-eqb c.args.text.now (48 ∷ []) c.eq.result c.eq.ensures in
-    unsigned c.args.text.now c.positive.result (λ e. untrue (sym c.if-eq.false ∙ told.1 e))
-    (λ h e. elim c.then-is-empty.branch [
-      | then-is-empty-via-then-is-empty w ↦ let z = eqb-true (length c.args.text.now) 0 (sym c.is-empty.ensures ∙ w.if-is-empty.true) in omega arith
-      | then-is-empty-via-else-is-empty+then-text-ne45 w ↦ omega arith
+pub returns-then-is_empty : goal.returns-then-is_empty
+returns-then-is_empty c =
+    let told = slice_eq-Decides Decides-eqb c.args.text.now c.as_slice.result.now c.eq.result c.eq.ensures in
+    unsigned c.args.text.now c.positive.result (λ e. untrue (sym c.if-eq.false ∙ told.1 (e ∙ sym c.as_slice.ensures)))
+    (λ h e. elim c.then-is_empty.branch [
+      | then-is_empty-via-then-is_empty w ↦ let z = eqb-true (length c.args.text.now) 0 (sym c.is_empty.ensures ∙ w.if-is_empty.true) in omega arith
+      | then-is_empty-via-else-is_empty+then-text-ne45 w ↦ omega arith
     ]) c.positive.ensures
 
 pub returns : goal.returns
 returns c =
-    let n = eqb-false (length c.args.text.now) 0 (sym c.is-empty.ensures ∙ c.if-is-empty.false) in
+    let n = eqb-false (length c.args.text.now) 0 (sym c.is_empty.ensures ∙ c.if-is_empty.false) in
     signed c.args.text.now c.positive-2.result (omega arith) (omega arith) c.positive-2.ensures

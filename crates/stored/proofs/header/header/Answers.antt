@@ -18,5 +18,5 @@ returns-then-size-to c k b f =
 pub returns : goal.returns
 returns c =
     frame_is c.args.bytes.now c.args.at c.args.to _ _ (omega arith)
-    (record { s0 = (c.type-inv.bytes c.args.at).fits; s1 = (c.type-inv.bytes _).fits; s2 = (c.type-inv.bytes _).fits; s3 = (c.type-inv.bytes _).fits })
-    c.from-le-bytes-size.ensures refl (omega arith) (omega arith) c.if-bytes-at-ne0.false
+    (record { s0 = (c.type_inv.bytes c.args.at).fits; s1 = (c.type_inv.bytes _).fits; s2 = (c.type_inv.bytes _).fits; s3 = (c.type_inv.bytes _).fits })
+    c.from_le_bytes-size.ensures refl (omega arith) (omega arith) c.if-bytes-at-ne0.false

@@ -8,5 +8,5 @@ returns-then-kind-ne-DECIMAL c = scale_none c.args.kind c.args.body.now (λ e. �
 
 pub returns : goal.returns
 returns c =
-    let f : SFits w32 c.from-le-bytes.result = search rules in
-    scale_some c.args.kind c.args.body.now _ c.if-kind-ne-DECIMAL.false refl (to_z-of_z w32 c.from-le-bytes.result f ∙ c.from-le-bytes.ensures)
+    let f : SFits w32 c.from_le_bytes.result = search rules in
+    scale_some c.args.kind c.args.body.now _ c.if-kind-ne-DECIMAL.false refl (to_z-of_z w32 c.from_le_bytes.result f ∙ c.from_le_bytes.ensures)

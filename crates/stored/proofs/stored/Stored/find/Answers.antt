@@ -28,4 +28,4 @@ pub returns : goal.returns
 returns c ms h =
     let bytes = c.args.self.now.bytes.now in
     let i = c.loop-at.invariant ms h in
-    subst (λ o. Found (Held bytes) o None) (sym i.2) (found_none bytes i.0 c.args.name.now (c.in-default.ensures.field i.0 i.1))
+    subst (λ o. Found (Held bytes) o None) (sym i.2) (found_none bytes i.0 c.args.name.now (c.in_default.ensures.field i.0 i.1))

@@ -8,10 +8,10 @@ returns-then-at-len c = record {
   points = λ p f x l. follows_root c.args.self.now.bytes.now c.args.at p f x c.if-at-len.true l;
 }
 
-pub returns-in-default : goal.returns-in-default
-returns-in-default c = record {
+pub returns-in_default : goal.returns-in_default
+returns-in_default c = record {
   lies = record { forward = omega arith; inside = omega arith };
-  points = λ p f x l. follows_none c.args.self.now.bytes.now c.args.at p f x _ c.if-at-len.false c.in-default.ensures l;
+  points = λ p f x l. follows_none c.args.self.now.bytes.now c.args.at p f x _ c.if-at-len.false c.in_default.ensures l;
 }
 
 pub returns-then-first-ne-NAME : goal.returns-then-first-ne-NAME
@@ -22,10 +22,10 @@ returns-then-first-ne-NAME c =
       points = λ p f x l. rw c.new.ensures (follows_item c.args.self.now.bytes.now c.args.at p f x c.in-Some.first c.if-at-len.false a c.if-first-ne-NAME.true l);
     }
 
-pub returns-in-default-header : goal.returns-in-default-header
-returns-in-default-header c = record {
+pub returns-in_default-header : goal.returns-in_default-header
+returns-in_default-header c = record {
   lies = record { forward = omega arith; inside = omega arith };
-  points = λ p f x l. follows_name c.args.self.now.bytes.now c.args.at p f x c.in-Some.first _ c.if-at-len.false c.in-Some.ensures c.if-first-ne-NAME.false c.in-default-header.ensures l;
+  points = λ p f x l. follows_name c.args.self.now.bytes.now c.args.at p f x c.in-Some.first _ c.if-at-len.false c.in-Some.ensures c.if-first-ne-NAME.false c.in_default-header.ensures l;
 }
 
 pub returns : goal.returns

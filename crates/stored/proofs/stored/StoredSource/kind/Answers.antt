@@ -7,4 +7,4 @@ use Rattle.stored.proofs.stored.StoredSource.kind.Goals as goal
 pub returns : goal.returns
 returns c t h =
     let p = c.follow.ensures.points h.place h.from h.value h.leads in
-    c.kind-for.ensures ∙ ap kind_for_lem p.kinds ∙ kind_of_lem h.place h.from h.value ∙ ap kind_of h.shows
+    c.kind_for.ensures ∙ ap kind_for_lem p.kinds ∙ kind_of_lem h.place h.from h.value ∙ ap kind_of h.shows

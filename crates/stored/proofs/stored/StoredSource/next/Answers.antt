@@ -2,11 +2,11 @@ use Rattle.std.proofs.Common.{arith}
 use Rattle.stored.proofs.CuSpans.{items_none, items_next, items_unnamed, members_none, members_named, members_valued, members_next}
 use Rattle.stored.proofs.stored.StoredSource.next.Goals as goal
 
-pub returns-in-default : goal.returns-in-default
-returns-in-default c = record {
+pub returns-in_default : goal.returns-in_default
+returns-in_default c = record {
   shrinks = tt;
-  item = λ xs h. items_none c.args.self.now.bytes.now c.args.span xs c.in-default.ensures h;
-  field = λ ms h. members_none c.args.self.now.bytes.now c.args.span ms c.in-default.ensures h;
+  item = λ xs h. items_none c.args.self.now.bytes.now c.args.span xs c.in_default.ensures h;
+  field = λ ms h. members_none c.args.self.now.bytes.now c.args.span ms c.in_default.ensures h;
 }
 
 pub returns-then-first-ne-NAME : goal.returns-then-first-ne-NAME
@@ -18,13 +18,13 @@ returns-then-first-ne-NAME c =
       field = λ ms h. absurd (members_named c.args.self.now.bytes.now c.args.span ms c.in-Some.first a c.if-first-ne-NAME.true h);
     }
 
-pub returns-in-default-header : goal.returns-in-default-header
-returns-in-default-header c =
+pub returns-in_default-header : goal.returns-in_default-header
+returns-in_default-header c =
     let a = c.in-Some.ensures in
     record {
       shrinks = tt;
       item = λ xs h. absurd (items_unnamed c.args.self.now.bytes.now c.args.span xs c.in-Some.first a c.if-first-ne-NAME.false h);
-      field = λ ms h. absurd (members_valued c.args.self.now.bytes.now c.args.span ms c.in-Some.first a c.in-default-header.ensures h);
+      field = λ ms h. absurd (members_valued c.args.self.now.bytes.now c.args.span ms c.in-Some.first a c.in_default-header.ensures h);
     }
 
 pub returns : goal.returns

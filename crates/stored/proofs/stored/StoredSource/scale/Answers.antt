@@ -7,5 +7,5 @@ use Rattle.stored.proofs.stored.StoredSource.scale.Goals as goal
 pub returns : goal.returns
 returns c t h =
     let p = c.follow-target.ensures.points h.place h.from h.value h.leads in
-    held_of (λ u. Scaled u c.scale-for.result) c.args.self.now.bytes.now c.args.at t c.follow-target.result h p
-    (subst (OfRecord (λ u. Scaled u c.scale-for.result) c.follow-target.result.kind) c.body.ensures c.scale-for.ensures)
+    held_of (λ u. Scaled u c.scale_for.result) c.args.self.now.bytes.now c.args.at t c.follow-target.result h p
+    (subst (OfRecord (λ u. Scaled u c.scale_for.result) c.follow-target.result.kind) c.body.ensures c.scale_for.ensures)

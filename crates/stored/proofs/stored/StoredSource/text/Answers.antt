@@ -7,5 +7,5 @@ use Rattle.stored.proofs.stored.StoredSource.text.Goals as goal
 pub returns : goal.returns
 returns c t h =
     let p = c.follow-target.ensures.points h.place h.from h.value h.leads in
-    held_of (λ u. c.text-for.result.now ≡ text_of u) c.args.self.now.bytes.now c.args.at t c.follow-target.result h p
-    (subst (OfRecord (λ u. c.text-for.result.now ≡ text_of u) c.follow-target.result.kind) c.body.ensures c.text-for.ensures)
+    held_of (λ u. c.text_for.result.now ≡ text_of u) c.args.self.now.bytes.now c.args.at t c.follow-target.result h p
+    (subst (OfRecord (λ u. c.text_for.result.now ≡ text_of u) c.follow-target.result.kind) c.body.ensures c.text_for.ensures)
