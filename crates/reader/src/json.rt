@@ -1,6 +1,6 @@
 // JSON texts.
 ghost use Rattle.source.specs.declared.raw.Form.TheVariants.{Json as JsonForm};
-ghost use Rattle.source.specs.Table.{tree_table, Held, HeldAll, HeldMems, Named};
+ghost use Rattle.source.specs.Table.{past_of, tree_table, Held, HeldAll, HeldMems, Named};
 ghost use Rattle.source.proofs.OneTree.{lawful};
 ghost use Rattle.text.specs.declared.language.Language.TheVariants.{Json as JsonLanguage};
 ghost use Rattle.reader.specs.Document.{Document, table_in};
@@ -24,6 +24,8 @@ impl Source for Json<'_> {
     const FORM: Form = Form::Json;
 
     ghost form = { JsonForm };
+
+    ghost past = { λ s. past_of s.tree.nodes.list.items };
 
     ghost start = { λ s. 0 };
 

@@ -4,7 +4,7 @@ ghost use Rattle.text.specs.declared.fault.Fault.TheVariants.{BadText};
 ghost use Rattle.source.specs.Nodes.{nowhere};
 ghost use Rattle.reader.specs.Told.{Told, literal_manner};
 ghost use Rattle.source.specs.declared.raw.Form.TheVariants.{Literal as LiteralForm};
-ghost use Rattle.source.specs.Table.{table_of, tree_table, Held, HeldAll, HeldMems, Named};
+ghost use Rattle.source.specs.Table.{past_of, table_of, tree_table, Held, HeldAll, HeldMems, Named};
 ghost use Rattle.source.proofs.OneTree.{lawful};
 ghost use Rattle.text.specs.declared.language.Language.TheVariants.{Graphql as GraphqlLanguage};
 ghost use Rattle.reader.specs.Document.{Document, table_in};
@@ -62,6 +62,8 @@ impl Source for Literal<'_, '_> {
     const FORM: Form = Form::Literal;
 
     ghost form = { LiteralForm };
+
+    ghost past = { λ s. past_of s.tree.now.nodes.list.items };
 
     ghost start = { λ s. s.root };
 

@@ -2,10 +2,11 @@
 ghost use Rattle.std.specs.Prelude.{◌≡◌, ◌<◌, ◌≤◌, map, length, IfOk, vec_len};
 ghost use Rattle.lookup.specs.First.{First};
 
-use crate::declared::declared;
 use crate::definition::Schema;
+use crate::types;
 use crate::types::Type;
 use lookup::{Lookup, Named, Table};
+use reader::literal;
 use reader::literal::Literal;
 use source::limits::LONGEST_TEXT;
 use source::nodes::Nodes;
@@ -16,6 +17,9 @@ use text::graphql;
 use text::token::{Lexeme, Token};
 
 pub const MOST_VARIABLES: usize = 64;
+
+// A default is at this depth, what is in it deeper.
+const DEFAULT_DEPTH: usize = 1;
 
 #[derive(Clone, Copy, Debug, PartialEq)]
 pub enum OperationKind {
@@ -192,16 +196,36 @@ fn definition<'a>(
     let Token::Name(called) = token else {
         return Err(Fault::BadText(start));
     };
-    let (ty, default, to) = declared(text, end, nodes)?;
-    let base = schema.base(ty.name);
+    let colon = graphql::token(text, end)?;
+    let Token::Colon = colon.token else {
+        return Err(Fault::BadText(colon.start));
+    };
+    let (ty, after) = types::read_type(schema, text, colon.end)?;
+    let (default, to) = default_value(text, after, nodes)?;
     Ok((
         Variable {
             name: called,
             name_place: start,
             place,
-            ty: Type { base, ..ty },
+            ty,
             default,
         },
         to,
     ))
+}
+
+// The default at `at`, if there is one, and where it ends.
+fn default_value(text: &[u8], at: usize, nodes: &mut Nodes) -> Result<(Option<usize>, usize), Fault>
+    requires { at ≤ length text.now }
+    ensures { IfOk result (λ p. (at ≤ p.1) × (p.1 ≤ length text.now)) }
+{
+    let lexeme = graphql::token(text, at)?;
+    match lexeme.token {
+        Token::Equals => {
+            let root = nodes.list.len();
+            let end = literal::literal_at(text, lexeme.end, DEFAULT_DEPTH, nodes)?;
+            Ok((Some(root), end))
+        }
+        _ => Ok((None, at)),
+    }
 }

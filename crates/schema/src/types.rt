@@ -1,7 +1,8 @@
-// Types of variables and fields.
+// Types of variables.
 ghost use Rattle.std.specs.Prelude.{◌≡◌, ◌-◌, ◌<◌, ◌≤◌, length, IfOk, nat_lt};
 ghost use Rattle.text.specs.Places.{Placed, is_end};
 
+use crate::definition::Schema;
 use text::fault::Fault;
 use text::graphql;
 use text::token::{Lexeme, Token};
@@ -16,12 +17,8 @@ pub enum Base {
     String,
     Boolean,
     Id,
-    // The numbers of declared types.
+    // The index of a declared scalar.
     Custom(usize),
-    Enum(usize),
-    Input(usize),
-    // No input type.
-    Output,
     Unknown,
 }
 
@@ -62,8 +59,12 @@ impl<'a> Type<'a> {
     }
 }
 
-// The type at `at`, and where it ends. What its name stands for is left open.
-pub(crate) fn read_type(text: &[u8], at: usize) -> Result<(Type<'_>, usize), Fault>
+// The type at `at`, whose name may be one of the schema, and where it ends.
+pub(crate) fn read_type<'a>(
+    schema: &Schema<'_>,
+    text: &'a [u8],
+    at: usize,
+) -> Result<(Type<'a>, usize), Fault>
     requires { at ≤ length text.now }
     ensures { IfOk result (λ p. (at < p.1) × (p.1 ≤ length text.now) × (p.0.levels ≤ 8)) }
 {
@@ -86,7 +87,7 @@ pub(crate) fn read_type(text: &[u8], at: usize) -> Result<(Type<'_>, usize), Fau
     }
     Ok((
         Type {
-            base: Base::Unknown,
+            base: schema.base(name),
             name,
             place: start,
             levels,

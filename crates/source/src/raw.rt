@@ -1,10 +1,11 @@
 // How a tree of raw values is asked.
-ghost use Rattle.std.specs.Prelude.{◌≡◌, ℕ, List as Bytes};
+ghost use Rattle.std.specs.Prelude.{◌≡◌, ℕ, List as Bytes, IfSome};
 ghost use Rattle.model.specs.Values.{Raw, Raws, Mems, list, object, place_of};
 ghost use Rattle.model.specs.Coercion.{member as member_of};
 ghost use Rattle.source.specs.declared.raw.Form.{Form};
 ghost use Rattle.source.specs.declared.raw.Span.{Span};
 ghost use Rattle.source.specs.Heads.{kind_of, flag_of, text_of};
+ghost use Rattle.source.specs.Spans.{Taken, Within};
 ghost use Rattle.source.specs.Standing.{Lawful, Shrinks, LeadsItems, LeadsMembers, Found, Scaled};
 
 use text::decimal::Scale;
@@ -42,6 +43,9 @@ pub trait Source {
     const FORM: Form;
 
     ghost form: { Form };
+
+    // The cursor past a value and all below it.
+    ghost past: { Self → ℕ → ℕ };
 
     // The cursor of the whole tree.
     ghost start: { Self → ℕ };
@@ -87,11 +91,13 @@ pub trait Source {
 
     // The items of a list, the members of an object.
     fn inside(&self, at: usize) -> Span
+        ensures narrow { Within (past self.now at) at result }
         ensures listed { (p : ℕ) (xs : Raws) → stands self.now at (list p xs) → items self.now result xs }
         ensures fielded { (p : ℕ) (ms : Mems) → stands self.now at (object p ms) → members self.now result ms };
 
     // The first of them and the rest.
     fn next(&self, span: Span) -> Option<(usize, Span)>
+        ensures taken { IfSome result (λ p. Taken (past self.now p.0) span p.0 p.1) }
         ensures shrinks { Shrinks span result }
         ensures item { (xs : Raws) → items self.now span xs → LeadsItems (stands self.now) (items self.now) xs result }
         ensures field { (ms : Mems) → members self.now span ms → LeadsMembers (named self.now) (stands self.now) (members self.now) ms result };

@@ -6,6 +6,7 @@ ghost use Rattle.names.specs.Parts.{PartFits, bytes_of};
 ghost use Rattle.source.specs.Heads.{kind_of, flag_of, text_of};
 ghost use Rattle.source.specs.Standing.{LeadsItems, LeadsMembers, Found, Scaled};
 ghost use Rattle.source.specs.Spans.{Taken, Within};
+ghost use Rattle.source.specs.Nodes.{node_at};
 ghost use Rattle.source.specs.Table.{past_of, tree_table, Held, HeldAll, HeldMems, Named};
 
 use crate::nodes::Nodes;
@@ -21,25 +22,29 @@ pub struct Tree<'a> {
 
 impl<'a> Tree<'a> {
     pub fn kind(&self, at: usize) -> Kind
-        ensures { (t : Raw) → Held (tree_table self.now) at t → result ≡ kind_of t }
+        ensures node { result ≡ (node_at self.now.nodes.list.items at).kind }
+        ensures tree { (t : Raw) → Held (tree_table self.now) at t → result ≡ kind_of t }
     {
         self.nodes.get(at).kind
     }
 
     pub fn place(&self, at: usize) -> usize
-        ensures { (t : Raw) → Held (tree_table self.now) at t → result ≡ place_of t }
+        ensures node { result ≡ (node_at self.now.nodes.list.items at).place }
+        ensures tree { (t : Raw) → Held (tree_table self.now) at t → result ≡ place_of t }
     {
         self.nodes.get(at).place
     }
 
     pub fn boolean(&self, at: usize) -> bool
-        ensures { (t : Raw) → Held (tree_table self.now) at t → result ≡ flag_of t }
+        ensures node { result ≡ (node_at self.now.nodes.list.items at).flag }
+        ensures tree { (t : Raw) → Held (tree_table self.now) at t → result ≡ flag_of t }
     {
         self.nodes.get(at).flag
     }
 
     pub fn scale(&self, at: usize) -> Scale
-        ensures { (t : Raw) → Held (tree_table self.now) at t → Scaled t result }
+        ensures node { result ≡ (node_at self.now.nodes.list.items at).scale }
+        ensures tree { (t : Raw) → Held (tree_table self.now) at t → Scaled t result }
     {
         self.nodes.get(at).scale
     }

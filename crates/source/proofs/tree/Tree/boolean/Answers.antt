@@ -3,5 +3,5 @@ use Rattle.source.specs.declared.nodes.Node.{Node}
 use Rattle.source.proofs.Standings.{says_of}
 use Rattle.source.proofs.tree.Tree.boolean.Goals as goal
 
-pub returns : goal.returns
-returns c t h = ap (λ (n : Node). n.flag) c.get.ensures ∙ (says_of h).flag
+pub returns-clause-tree : goal.returns-clause-tree
+returns-clause-tree c t h = ap (λ (n : Node). n.flag) c.get.ensures ∙ (says_of h).flag
