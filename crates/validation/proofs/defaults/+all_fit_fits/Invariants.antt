@@ -2,11 +2,11 @@ use Rattle.std.proofs.Common.{◌+◌, ◌*◌}
 use Rattle.source.specs.Standing.{width}
 use Rattle.validation.proofs.defaults.+all_fit_fits.Given as goal
 
-abbrev pub decreases-all-fit : goal.decreases-all-fit
-decreases-all-fit g l = 2 * l.item.now.levels + 1
+abbrev pub decreases-all_fit : goal.decreases-all_fit
+decreases-all_fit g l = 2 * l.item.now.levels + 1
 
 abbrev pub decreases-fits : goal.decreases-fits
 decreases-fits g l = 2 * l.ty.now.levels
 
-abbrev pub decreases-all-fit-loop-at : goal.decreases-all-fit-loop-at
-decreases-all-fit-loop-at g l = width l.span
+abbrev pub decreases-all_fit-loop-at : goal.decreases-all_fit-loop-at
+decreases-all_fit-loop-at g l = width l.span
