@@ -7,6 +7,7 @@ use Rattle.text.proofs.NormValues.{rest_is}
 use Rattle.text.specs.Cuts.{part}
 use Rattle.model.specs.Records.{framed}
 use Rattle.stored.specs.Frames.{Framed, FrameAt}
+use Rattle.stored.specs.Past.{size_at}
 
 -- the bytes of a header
 pub record Heads (bytes : List ℕ) (i n k : ℕ) : Type 0 where
@@ -26,10 +27,6 @@ heads {bytes} {i} f = record {
   b4 = sym (get_or-drop i bytes 4 0) ∙ ap (λ l. get_or l 4 0) f.there;
   b5 = sym (get_or-drop i bytes 5 0) ∙ ap (λ l. get_or l 5 0) f.there;
 }
-
--- the length of the body, as the header has it
-abbrev pub size_at : List ℕ → ℕ → ℕ
-size_at bytes i = get_or bytes i 0 + get_or bytes (i + 1) 0 * 256 + get_or bytes (i + 2) 0 * 65536 + get_or bytes (i + 3) 0 * 16777216
 
 pub digits : (n : ℕ) → n < 2 ^ 32 → n % 256 + n / 256 % 256 * 256 + n / 65536 % 256 * 65536 + n / 16777216 % 256 * 16777216 ≡ n
 digits n h =

@@ -1,4 +1,5 @@
 pub mod FrLaws
+pub mod PaLaws
 pub mod CoForms
 pub mod OutSame
 pub mod OutNames

@@ -1,4 +1,5 @@
 pub mod Frames
+pub mod Past
 pub mod Contents
 pub mod Outcomes
 pub mod Told

@@ -1,5 +1,5 @@
 // A sheet's bytes as a source of raw values in JSON form.
-ghost use Rattle.std.specs.Prelude.{◌≡◌, ℕ, length};
+ghost use Rattle.std.specs.Prelude.{◌≡◌, ℕ, ◌-◌, ◌≤◌, length};
 ghost use Rattle.text.specs.Cuts.{part};
 ghost use Rattle.model.specs.Values.{Rec, Mems};
 ghost use Rattle.model.specs.Coercion.{member as member_of};
@@ -7,6 +7,7 @@ ghost use Rattle.source.specs.declared.raw.Form.TheVariants.{Json as JsonForm};
 ghost use Rattle.source.specs.Heads.{flag_of, text_of};
 ghost use Rattle.source.specs.Standing.{Found, Scaled};
 ghost use Rattle.stored.specs.Cursors.{Leads, Held, HeldAll, HeldMems, Named, Points, Lies, OfRecord, kind_for_lem};
+ghost use Rattle.stored.specs.Past.{past_at};
 ghost use Rattle.stored.specs.Laws.{StoredTold, ReadsOnce, ReadsBack, AcceptsBack};
 ghost use Rattle.stored.specs.OneTree.{lawful};
 
@@ -108,6 +109,7 @@ impl<'a> Stored<'a> {
     // The record of the value at the cursor.
     fn follow(&self, at: usize) -> Target
         ensures lies { Lies self.now.bytes.now result }
+        ensures narrow { result.end - result.from ≤ past_at self.now.bytes.now at - at - 1 }
         ensures points { (p f : ℕ) (x : Rec) → Leads self.now.bytes.now at p f x → Points self.now.bytes.now p f x result }
     {
         let bytes = self.bytes;
@@ -165,6 +167,8 @@ impl Source for Stored<'_> {
     const FORM: Form = Form::Json;
 
     ghost form = { JsonForm };
+
+    ghost past = { λ s. past_at s.bytes.now };
 
     ghost start = { λ s. length s.bytes.now };
 

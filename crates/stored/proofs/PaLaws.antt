@@ -1,0 +1,65 @@
+-- Where what stands at a cursor ends, by the headers that were read there.
+use Rattle.std.proofs.Common.{◌≡◌, ℕ, ◌+◌, ◌-◌, ◌≤◌, List, length, ◌≢◌, refl, sym, ap, ◌∙◌, arith}
+use Rattle.std.proofs.lemmas.Bool.Decides.{nat_tests}
+use Rattle.source.specs.declared.raw.Span.{Span}
+use Rattle.source.specs.Spans.{Taken}
+use Rattle.stored.specs.declared.header.Frame.{Frame}
+use Rattle.stored.specs.Frames.{FrameAt}
+use Rattle.stored.specs.Past.{kind_at, end_at, past_at}
+use Rattle.stored.proofs.FrLaws.{heads, size_is}
+
+-- a header says where its record ends
+pub end_is : {bytes : List ℕ} {i to : ℕ} {h : Frame} → FrameAt bytes i to h → end_at bytes i ≡ h.end
+unfolding end_at
+end_is a = omega (arith, size_is a.framed, a.ends)
+
+pub kind_is : {bytes : List ℕ} {i to : ℕ} {h : Frame} → FrameAt bytes i to h → kind_at bytes i ≡ h.kind
+kind_is a = (heads a.framed).b4
+
+-- a record that stands in the bytes starts before their end
+starts_below : {bytes : List ℕ} {i to : ℕ} {h : Frame} → FrameAt bytes i to h → i ≢ length bytes
+starts_below a = λ e. omega (arith, a.starts, a.forward, a.inside)
+
+pub past_root : (bytes : List ℕ) (at : ℕ) → at ≡ length bytes → past_at bytes at ≡ at + 1 + length bytes
+unfolding past_at
+past_root bytes at e = grind (arith, nat_tests)
+
+pub past_item : {bytes : List ℕ} {at to : ℕ} {h : Frame} → FrameAt bytes at to h → h.kind ≢ 8 → past_at bytes at ≡ h.end
+unfolding past_at
+past_item a k =
+    let n = starts_below a in
+    let e = end_is a in
+    let q = kind_is a in
+    grind (arith, nat_tests)
+
+pub past_member : {bytes : List ℕ} {at to up : ℕ} {h j : Frame} → FrameAt bytes at to h → h.kind ≡ 8 → FrameAt bytes h.end up j → past_at bytes at ≡ j.end
+unfolding past_at
+past_member {bytes} {at} {h = h} {j} a k b =
+    let n = starts_below a in
+    let e = end_is a in
+    let q = kind_is a in
+    let f = ap (end_at bytes) e ∙ end_is b in
+    grind (arith, nat_tests)
+
+-- THE REST OF A SPAN
+
+pub taken_item : {bytes : List ℕ} {h : Frame} (span : Span) → FrameAt bytes span.from span.to h → h.kind ≢ 8 → Taken (past_at bytes span.from) span span.from (record { from = h.end; to = span.to })
+taken_item span a k =
+    let p = past_item a k in
+    record { first = refl; onward = omega (arith, a.starts, a.forward); from = sym p; to = refl; inside = omega (arith, a.within) }
+
+pub taken_member : {bytes : List ℕ} {h j : Frame} (span : Span) → FrameAt bytes span.from span.to h → h.kind ≡ 8 → FrameAt bytes h.end span.to j → Taken (past_at bytes span.from) span span.from (record { from = j.end; to = span.to })
+taken_member span a k b =
+    let p = past_member a k b in
+    record { first = refl; onward = omega (arith, a.starts, a.forward, b.starts, b.forward); from = sym p; to = refl; inside = omega (arith, b.within) }
+
+-- WHAT LIES IN A RECORD
+
+pub narrow_root : (bytes : List ℕ) (at : ℕ) → at ≡ length bytes → length bytes - 0 ≤ past_at bytes at - at - 1
+narrow_root bytes at e = omega (arith, past_root bytes at e)
+
+pub narrow_item : {bytes : List ℕ} {at to : ℕ} {h : Frame} → FrameAt bytes at to h → h.kind ≢ 8 → h.end - h.from ≤ past_at bytes at - at - 1
+narrow_item a k = omega (arith, past_item a k, a.starts)
+
+pub narrow_member : {bytes : List ℕ} {at to up : ℕ} {h j : Frame} → FrameAt bytes at to h → h.kind ≡ 8 → FrameAt bytes h.end up j → j.end - j.from ≤ past_at bytes at - at - 1
+narrow_member a k b = omega (arith, past_member a k b, a.starts, a.forward, b.starts)
