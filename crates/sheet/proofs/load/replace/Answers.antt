@@ -9,5 +9,5 @@ tail n m zs e = ap (post_of 0 (n - 0)) e ∙ drop-replicate (n - 0) m 0 ∙ ap (
 pub returns : goal.returns
 returns c =
     let t = tail (length c.args.from.now) (length c.args.to.now) c.fill.new.self (c.fill.ensures.after (λ _ e. e)) in
-    ap (λ ys. ys ++ post_of 0 (length c.args.from.now - 0) c.fill.new.self) c.copy-from-slice.ensures.after
+    ap (λ ys. ys ++ post_of 0 (length c.args.from.now - 0) c.fill.new.self) c.copy_from_slice.ensures.after
     ∙ ap (λ zs. c.args.from.now ++ zs) t

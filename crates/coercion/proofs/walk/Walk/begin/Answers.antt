@@ -13,8 +13,8 @@ returns-in-None g c =
       opened = made_any _ (λ _. (more, omega arith, rooted_more _ _ (omega (arith, more)) _ c.requires.rooted)) c.settle.result;
     }
 
-pub returns-in-Some-default : goal.returns-in-Some-default
-returns-in-Some-default g c =
+pub returns-in-Some-rest : goal.returns-in-Some-rest
+returns-in-Some-rest g c =
     let begun = c.in-Some.ensures.opened in
     let more : c.args.out.now.used + 6 ≤ c.begin.new.self.used = omega (arith, begun.at, begun.used) in
     record {

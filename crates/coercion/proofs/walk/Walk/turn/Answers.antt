@@ -25,8 +25,8 @@ begin-requires g c =
       rooted = subst (Rooted c.args.out.now.used) (sym c.push.ensures) (rooted_push _ _ _ r.0 r.1);
     }
 
-pub returns-in-ok-settle : goal.returns-in-ok-settle
-returns-in-ok-settle g c =
+pub returns-in_ok-settle-in-None : goal.returns-in_ok-settle-in-None
+returns-in_ok-settle-in-None g c =
     let r = rooted_pop _ _ c.in-Some.frame (subst (Rooted c.args.out.now.used) c.in-Some.ensures c.requires.rooted) in
     record {
       kept = c.finish.ensures.kept;
@@ -35,9 +35,9 @@ returns-in-ok-settle g c =
       falls = λ _. omega (arith, c.finish.ensures.used, c.finish.ensures.kept.long, pushed_length _ _ _ c.in-Some.ensures);
     }
 
-pub returns-in-ok-begin : goal.returns-in-ok-begin
-returns-in-ok-begin g c =
-    let opened = c.in-ok-begin.ensures.opened in
+pub returns-in_ok-begin-in-Some-next : goal.returns-in_ok-begin-in-Some-next
+returns-in_ok-begin-in-Some-next g c =
+    let opened = c.in_ok-begin-in-Some-next.ensures.opened in
     record {
       kept = c.begin.ensures.kept;
       same = c.begin.ensures.same;
