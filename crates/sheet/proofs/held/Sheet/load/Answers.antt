@@ -14,19 +14,14 @@ invariant_of-self g c =
       inside = omega arith;
       past = ap (drop s.contents.length) c.as_mut_slice-bytes.ensures.value ∙ s.past ∙ same_zeros _ _ (omega arith);
     } in
-    let z = sound c.fill.result c.as_mut_slice-bytes.result.now c.fill.new.bytes s.contents c.fill.new.contents c.fill.ensures.refused c.fill.ensures.accepted old in (
-      s.low,
-      (
-        s.level,
-        (
-          with_items_is s.working c.fill.new.working wide ∙ c.fill.ensures.cleared ∙ same_zeros _ _ c.as_mut_slice-working.ensures.len,
-          (
-            omega (arith, z.inside),
-            (ap (drop c.fill.new.contents.length) held ∙ z.past ∙ same_zeros _ _ (omega arith), tt),
-          ),
-        ),
-      ),
-    )
+    let z = sound c.fill.result c.as_mut_slice-bytes.result.now c.fill.new.bytes s.contents c.fill.new.contents c.fill.ensures.refused c.fill.ensures.accepted old in
+    record {
+      low = s.low;
+      level = s.level;
+      clear = with_items_is s.working c.fill.new.working wide ∙ c.fill.ensures.cleared ∙ same_zeros _ _ c.as_mut_slice-working.ensures.len;
+      inside = omega (arith, z.inside);
+      past = ap (drop c.fill.new.contents.length) held ∙ z.past ∙ same_zeros _ _ (omega arith);
+    }
 
 pub returns : goal.returns
 returns g c =
