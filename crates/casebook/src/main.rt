@@ -48,7 +48,7 @@ impl From<anyhow::Error> for Stop {
 // A refusal has a number; 0 stands for want of memory.
 fn refused(number: u8) -> Stop {
     if number == 0 {
-        Stop::Failed("no memory".into())
+        Stop::Failed(anyhow!("no memory"))
     } else {
         Stop::Refused(number)
     }
