@@ -1,5 +1,5 @@
 -- The bytes of records: their number, and that they are told apart.
-use Rattle.std.proofs.Common.{◌≡◌, ℕ, ◌+◌, ◌-◌, ◌/◌, ◌%◌, ◌^◌, ◌<◌, ◌≤◌, Bool, true, false, List, [], ◌∷◌, ◌++◌, length, ℤ, pos, negsuc, sym, refl, ap, ◌∙◌, ap₂, arith}
+use Rattle.std.proofs.Common.{◌≡◌, ℕ, ◌/◌, ◌%◌, ◌^◌, ◌<◌, Bool, true, false, List, [], ◌∷◌, ◌++◌, length, ℤ, pos, negsuc, sym, refl, ap, ◌∙◌, ap₂, arith}
 use Rattle.std.proofs.lemmas.List.{length-append}
 use Rattle.model.specs.Values.{Name, Dec, Plain, p_boolean, p_whole, p_decimal, p_string, Rec, Recs, Rmems, r_null, r_plain, r_list, r_object, r_nil, r_cons, r_end, r_mem}
 use Rattle.model.specs.Records.{le32, framed, twos, truth, plain_kind, plain_body, kind, body, encode, encode_all, encode_mems, plain_size, size, size_all, size_mems, ExponentFits, PlainFits, Fits, FitsAll, FitsMems, Decodes, DecodesSheet}

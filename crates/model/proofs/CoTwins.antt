@@ -1,7 +1,7 @@
 -- Twins come to the same outcome, but for the places of refusals.
 use Rattle.std.proofs.Common.{ℕ, zero, suc, Bool, true, false, cond, List, [], ◌∷◌, refl, ap, subst}
 use mathlib.Core.Option.{Option, none, some}
-use Rattle.model.specs.Values.{Name, Form, literal, Scalar, Raw, Raws, Mems, scalar, variable, mem, place_of, Ty, named, list_of, nullable, Field, Def, int_d, float_d, string_d, boolean_d, id_d, enum_d, input_d, custom_d, output_d, Schema, find, Variable, Plain, Rec, Recs, Rmems, r_plain, r_list, r_object, r_mem, same, has, field_names}
+use Rattle.model.specs.Values.{Name, Form, literal, Scalar, Raw, Raws, Mems, scalar, mem, place_of, Ty, named, list_of, nullable, Field, Def, int_d, float_d, string_d, boolean_d, id_d, enum_d, input_d, custom_d, output_d, Schema, find, Variable, Plain, Rec, Recs, Rmems, r_plain, r_list, r_object, r_mem, same, has, field_names}
 use Rattle.model.specs.Refusals.{Cause, null_value, wrong_value, unknown_key, missing_field, missing_variable, scalar_refused, variable_in_value, Out, ok, refused, beyond, and_then, Here, refuse, in_field, as_default}
 use Rattle.model.specs.Scalars.{plain, scalar_at}
 use Rattle.model.specs.Coercion.{Rule, keep, keep_all, keep_mems, passes, ruled, or_wrong, scalar_named, null_at, ones, list_named, first_undeclared, if_declared, Defaults, absent, field_at, Looks, fields_at, object_named, coerce, coerce_all, coerce_mem, coerce_at, for_variable, given, member, variables_at}

@@ -5,7 +5,7 @@ use Rattle.model.specs.Values.{Name, Variable, Rec, Rmems}
 use Rattle.model.specs.Records.{framed, encode, encode_mems}
 use Rattle.model.specs.Coercion.{Slots, put, sheet_of}
 use Rattle.model.specs.Walk.{slot_size}
-use Rattle.model.specs.Calls.{bytes_of, slot_bytes, Extent, extents_from}
+use Rattle.model.specs.Calls.{bytes_of, slot_bytes, extents_from}
 use Rattle.model.specs.Laws.{Cut, ExtentsCut}
 use Rattle.model.proofs.ByteLaws.{size-is_length}
 

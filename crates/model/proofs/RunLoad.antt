@@ -1,12 +1,12 @@
 -- An accepted load leaves what CoerceVariableValues gives.
 use Rattle.std.proofs.Common.{◌≡◌, ℕ, List, [], ◌∷◌, refl, ap, ◌∙◌, subst}
 use mathlib.Core.Option.{Option, none, some}
-use Rattle.model.specs.Values.{Form, Raw, Mems, object, Schema, Variable, Rec}
-use Rattle.model.specs.Refusals.{Out, ok, and_then}
+use Rattle.model.specs.Values.{Form, Raw, Mems, object, Schema, Variable}
+use Rattle.model.specs.Refusals.{ok, and_then}
 use Rattle.model.specs.Coercion.{Rule, Slots, member, variable_at, variables_at}
 use Rattle.model.specs.Calls.{Standing, Sheet, load, from_member, standing_of, slots_at, load_of, settle}
 use Rattle.model.specs.Laws.{Coerced, RunsStand, LoadCoerces}
-use Rattle.model.proofs.CoGood.{Good, good_all, good_of}
+use Rattle.model.proofs.CoGood.{good_all, good_of}
 
 -- one variable's slot, then the others
 next_slot : (k : ℕ) (S : Schema) (R : Rule) (p : Form) (ms : Mems) (v : Variable) (vs : List Variable) (x : Option Raw) (gs : Standing) (os : Slots)

@@ -5,7 +5,7 @@ use Rattle.model.specs.Values.{Name, Form, literal, Raw, Raws, Mems, null, scala
 use Rattle.model.specs.Records.{size, size_all, size_mems}
 use Rattle.model.specs.Refusals.{missing_field, scalar_refused, Out, ok, refused, beyond, and_then, Here, refuse, in_field, as_default}
 use Rattle.model.specs.Scalars.{plain, scalar_at}
-use Rattle.model.specs.Coercion.{Rule, keep, keep_all, keep_mems, passes, ruled, or_wrong, null_at, one, ones, list_named, first_undeclared, if_declared, Defaults, absent, field_at, put, Looks, fields_at, object_named, coerce, coerce_all, coerce_mem, coerce_at}
+use Rattle.model.specs.Coercion.{Rule, keep, keep_all, keep_mems, passes, ruled, or_wrong, null_at, ones, list_named, first_undeclared, if_declared, Defaults, absent, field_at, put, Looks, fields_at, object_named, coerce, coerce_all, coerce_mem, coerce_at}
 use Rattle.model.specs.Walk.{opening, leaf, name_size, slot_size, walk_keep, walk_keep_all, walk_keep_mems, walk_null, Placed, walk_ones, walk_list_named, WalkDefaults, WalkLooks, at_place, walk_fields, walk_object_named, walk, walk_all, walk_mem, walk_at}
 use Rattle.model.specs.Limits.{Shallow, ShallowAll, ShallowMems}
 use Rattle.model.specs.Laws.{WalkAgrees}

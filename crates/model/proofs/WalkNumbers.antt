@@ -1,5 +1,5 @@
 -- A whole number's decimal is within the limits.
-use Rattle.std.proofs.Common.{ℕ, suc, ◌≤◌, Bool, true, false, cond, eqb, List, [], ◌∷◌, length, arith}
+use Rattle.std.proofs.Common.{ℕ, suc, ◌≤◌, Bool, eqb, List, [], ◌∷◌, length, arith}
 use Rattle.std.proofs.lemmas.Bool.{cond_both}
 use Rattle.model.specs.Numbers.{is_negative, digits_in, add_front, trimmed, settled, decimal_of}
 use Rattle.model.specs.Records.{ExponentFits}

@@ -1,7 +1,7 @@
 -- In the walk too twins come to the same outcome, and so do calls that give twins.
 use Rattle.std.proofs.Common.{◌≡◌, ℕ, zero, suc, ◌+◌, Bool, true, false, leb, List, [], ◌∷◌, refl, ap, subst}
 use mathlib.Core.Option.{Option, none, some}
-use Rattle.model.specs.Values.{Name, Form, literal, Scalar, Raw, Raws, Mems, scalar, variable, mem, Ty, named, list_of, nullable, Field, Def, int_d, float_d, string_d, boolean_d, id_d, enum_d, input_d, custom_d, output_d, Schema, find, Variable, Rec, r_null, r_plain, same, field_names}
+use Rattle.model.specs.Values.{Name, Form, literal, Scalar, Raw, Raws, Mems, scalar, mem, Ty, named, list_of, nullable, Field, Def, int_d, float_d, string_d, boolean_d, id_d, enum_d, input_d, custom_d, output_d, Schema, find, Variable, Rec, r_null, r_plain, same, field_names}
 use Rattle.model.specs.Records.{size}
 use Rattle.model.specs.Refusals.{Cause, too_deep, no_space, null_value, wrong_value, missing_field, missing_variable, variable_in_value, undeclared, Refusal, Out, ok, refused, beyond, and_then, Here, refuse, in_field}
 use Rattle.model.specs.Scalars.{plain, scalar_at}

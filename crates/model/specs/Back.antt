@@ -1,6 +1,6 @@
 -- A record taken as a raw value in JSON form, at whatever places.
-use Rattle.std.specs.Prelude.{◌≡◌, ℕ, Bool, true, false, List, [], ◌∷◌}
-use Rattle.model.specs.Values.{Name, Scalar, boolean, whole, decimal, string, Raw, Raws, Mems, null, scalar, list, object, nil, cons, end, mem, Field, Def, int_d, float_d, string_d, boolean_d, id_d, enum_d, input_d, custom_d, output_d, TypeDef, Schema, find, Plain, p_boolean, p_whole, p_decimal, p_string, Rec, Recs, Rmems, r_null, r_plain, r_list, r_object, r_nil, r_cons, r_end, r_mem, has, field_names}
+use Rattle.std.specs.Prelude.{◌≡◌, ℕ, false, List, [], ◌∷◌}
+use Rattle.model.specs.Values.{Name, Scalar, boolean, whole, decimal, string, Raw, Raws, Mems, null, scalar, list, object, nil, cons, end, mem, Field, Def, int_d, float_d, string_d, boolean_d, id_d, enum_d, input_d, custom_d, output_d, TypeDef, Schema, Plain, p_boolean, p_whole, p_decimal, p_string, Rec, Recs, Rmems, r_null, r_plain, r_list, r_object, r_nil, r_cons, r_end, r_mem, has, field_names}
 
 abbrev pub as_scalar : Plain → Scalar
 as_scalar (p_boolean b) = boolean b

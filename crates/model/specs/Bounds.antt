@@ -1,5 +1,5 @@
 -- The bound on defaults within defaults.
-use Rattle.std.specs.Prelude.{◌≡◌, ℕ, List, [], ◌∷◌}
+use Rattle.std.specs.Prelude.{ℕ, List, [], ◌∷◌}
 use Rattle.std.proofs.Math.Option.{Option, none, some}
 use Rattle.model.specs.Values.{literal, Raw, Ty, Field, Schema}
 use Rattle.model.specs.Back.{OfInputs}

@@ -1,9 +1,9 @@
 -- Calls on a sheet, what stands, and runs of calls.
-use Rattle.std.specs.Prelude.{ℕ, ◌+◌, ◌-◌, Bool, true, false, cond, List, [], ◌∷◌, ◌++◌, length}
+use Rattle.std.specs.Prelude.{ℕ, ◌+◌, false, cond, List, [], ◌∷◌, ◌++◌}
 use Rattle.std.proofs.Math.Option.{Option, none, some}
-use Rattle.model.specs.Values.{Name, Form, json, literal, Raw, Mems, null, scalar, variable, list, object, Field, Schema, Variable, Rec, Rmems, same, has, field_names, fields_of}
+use Rattle.model.specs.Values.{Name, Form, json, Raw, Mems, null, scalar, variable, list, object, Schema, Variable, Rec, same}
 use Rattle.model.specs.Records.{framed, encode, encode_mems}
-use Rattle.model.specs.Refusals.{Cause, wrong_value, undeclared, variable_in_value, Out, ok, refused, beyond, and_then, Here, refuse}
+use Rattle.model.specs.Refusals.{wrong_value, undeclared, variable_in_value, Out, ok, refused, beyond, and_then, Here, refuse}
 use Rattle.model.specs.Coercion.{Rule, Slots, member, sheet_of}
 use Rattle.model.specs.Walk.{slot_size, walk_variable}
 

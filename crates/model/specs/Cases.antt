@@ -1,7 +1,7 @@
 -- Worked cases, computed from the definitions.
-use Rattle.std.specs.Prelude.{◌≡◌, ℕ, Bool, true, false, List, [], ◌∷◌, codes}
-use Rattle.std.proofs.Math.Option.{Option, none, some}
-use Rattle.model.specs.Values.{Name, json, Scalar, whole, Raw, Raws, Mems, null, scalar, list, object, nil, cons, end, mem, Ty, named, list_of, Field, input_d, custom_d, TypeDef, Schema, Variable}
+use Rattle.std.specs.Prelude.{◌≡◌, ℕ, true, false, List, [], ◌∷◌, codes}
+use Rattle.std.proofs.Math.Option.{none, some}
+use Rattle.model.specs.Values.{Name, json, whole, Raw, scalar, list, object, nil, cons, end, mem, Ty, named, list_of, input_d, custom_d, Schema, Variable}
 use Rattle.model.specs.Refusals.{Out, ok, refused, beyond, number_of}
 use Rattle.model.specs.Coercion.{Rule}
 use Rattle.model.specs.Calls.{Sheet, load, bytes_of, answer}

@@ -1,9 +1,9 @@
 -- Input coercion without limits (sections 3.5 to 3.12 and 6.1.2).
 use Rattle.std.specs.Prelude.{ℕ, zero, suc, Bool, true, false, cond, List, [], ◌∷◌}
 use Rattle.std.proofs.Math.Option.{Option, none, some}
-use Rattle.model.specs.Values.{Name, Form, json, literal, Scalar, Raw, Raws, Mems, null, scalar, variable, list, object, nil, cons, end, mem, place_of, Ty, named, list_of, nullable, Field, Def, int_d, float_d, string_d, boolean_d, id_d, enum_d, input_d, custom_d, output_d, Schema, find, Variable, Plain, Rec, Recs, Rmems, r_null, r_plain, r_list, r_object, r_nil, r_cons, r_end, r_mem, same, has, field_names}
+use Rattle.model.specs.Values.{Name, Form, literal, Scalar, Raw, Raws, Mems, null, scalar, variable, list, object, nil, cons, end, mem, place_of, Ty, named, list_of, nullable, Field, Def, int_d, float_d, string_d, boolean_d, id_d, enum_d, input_d, custom_d, output_d, Schema, find, Variable, Plain, Rec, Recs, Rmems, r_null, r_plain, r_list, r_object, r_nil, r_cons, r_end, r_mem, same, has, field_names}
 use Rattle.model.specs.Records.{encode}
-use Rattle.model.specs.Refusals.{Cause, null_value, wrong_value, unknown_key, missing_field, missing_variable, scalar_refused, variable_in_value, Out, ok, refused, beyond, and_then, Here, refuse, in_field, as_default}
+use Rattle.model.specs.Refusals.{null_value, wrong_value, unknown_key, missing_field, missing_variable, scalar_refused, variable_in_value, Out, ok, beyond, and_then, Here, refuse, in_field, as_default}
 use Rattle.model.specs.Scalars.{plain, scalar_at}
 
 -- a scalar rule: a set of pairs of a custom scalar's name and the bytes of a record

@@ -1,21 +1,21 @@
 -- The laws, each stated once; small public functions have them as contracts.
-use Rattle.std.specs.Prelude.{◌≡◌, ℕ, suc, ◌+◌, ◌^◌, ◌<◌, ◌≤◌, Bool, true, false, ◌⊎◌, List, [], ◌∷◌, ◌++◌, length, take, drop}
+use Rattle.std.specs.Prelude.{◌≡◌, ℕ, suc, ◌+◌, ◌^◌, ◌<◌, ◌≤◌, ◌⊎◌, List, [], ◌∷◌, length, take, drop}
 use Rattle.std.proofs.Math.Option.{Option, none, some}
 use Rattle.text.specs.NormalForm.{WholeForm}
-use Rattle.model.specs.Values.{Name, Form, json, literal, Dec, Scalar, Raw, Mems, object, Ty, Def, Schema, Variable, Plain, Rec, Rmems, r_object, fields_of, field_names}
+use Rattle.model.specs.Values.{Form, json, Dec, Scalar, Raw, Mems, object, Ty, Def, Schema, Variable, Plain, Rec, Rmems, fields_of, field_names}
 use Rattle.model.specs.Numbers.{decimal_of, NormalDec, SameDec}
 use Rattle.model.specs.Records.{encode, encode_mems, size, size_mems, Fits, FitsMems, Decodes, DecodesSheet}
-use Rattle.model.specs.Refusals.{Cause, too_deep, no_space, Refusal, Out, ok, refused, beyond, Here}
+use Rattle.model.specs.Refusals.{too_deep, no_space, Refusal, Out, ok, refused, Here}
 use Rattle.model.specs.Scalars.{scalar_at, TakesScalar}
-use Rattle.model.specs.Coercion.{Rule, Slots, coerce_at, variable_at, variables_at, sheet_of}
+use Rattle.model.specs.Coercion.{Rule, Slots, coerce_at, variable_at, variables_at}
 use Rattle.model.specs.Walk.{walk_at}
 use Rattle.model.specs.Taking.{Takes}
 use Rattle.model.specs.Conforming.{Conforms}
 use Rattle.model.specs.Back.{Shows, ShowsMems, Proper, Distinct}
-use Rattle.model.specs.Bounds.{Within, Settles, EachDefault}
+use Rattle.model.specs.Bounds.{Within, Settles}
 use Rattle.model.specs.Likeness.{whole_dec, Alike, Normal, NormalSchema}
 use Rattle.model.specs.Limits.{RawLimits, RecLimits, Shallow, SchemaLimits, VariableLimits}
-use Rattle.model.specs.Calls.{Given, Standing, Sheet, State, Call, load, supply, withdraw, bytes_of, slot_bytes, Extent, extents_of, answer, run, settle}
+use Rattle.model.specs.Calls.{Given, Standing, Sheet, State, Call, load, supply, withdraw, bytes_of, slot_bytes, Extent, extents_of, answer, run}
 use Rattle.model.specs.Twins.{Twin, TwinMems, SameOut, TwinCall, TwinCalls, slots_given, slots_kept}
 
 -- NUMBERS

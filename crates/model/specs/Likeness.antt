@@ -1,6 +1,6 @@
 -- When two raw values are alike at a type.
-use Rattle.std.specs.Prelude.{◌≡◌, ℕ, Bool, true, false, List, [], ◌∷◌, ℤ, pos}
-use Rattle.std.proofs.Math.Option.{Option, none, some}
+use Rattle.std.specs.Prelude.{◌≡◌, ℕ, Bool, List, [], ◌∷◌, pos}
+use Rattle.std.proofs.Math.Option.{none, some}
 use Rattle.text.specs.NormalForm.{WholeForm}
 use Rattle.model.specs.Values.{Name, Dec, Scalar, boolean, whole, decimal, string, symbol, Raw, Raws, Mems, null, scalar, variable, list, object, nil, cons, end, mem, Ty, named, list_of, Field, Def, int_d, float_d, string_d, boolean_d, id_d, enum_d, input_d, custom_d, Schema, find}
 use Rattle.model.specs.Numbers.{is_negative, digits_in, NormalDec, SameDec}

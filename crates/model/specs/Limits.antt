@@ -1,5 +1,5 @@
 -- The limits of a source: depth, names, numbers, text.
-use Rattle.std.specs.Prelude.{◌≡◌, ℕ, suc, ◌≤◌, Bool, true, false, List, [], ◌∷◌, length, IsUtf8}
+use Rattle.std.specs.Prelude.{ℕ, suc, ◌≤◌, List, [], ◌∷◌, length, IsUtf8}
 use Rattle.text.specs.NormalForm.{WholeForm}
 use Rattle.model.specs.Values.{Name, Dec, Scalar, boolean, whole, decimal, string, symbol, Raw, Raws, Mems, null, scalar, variable, list, object, nil, cons, end, mem, Field, Schema, Variable, Plain, p_boolean, p_whole, p_decimal, p_string, Rec, Recs, Rmems, r_null, r_plain, r_list, r_object, r_nil, r_cons, r_end, r_mem, field_names, fields_of}
 use Rattle.model.specs.Numbers.{NormalDec}

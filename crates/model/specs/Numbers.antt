@@ -1,7 +1,7 @@
 -- What numbers are worth, and the ranges of Int and Float.
-use Rattle.std.specs.Prelude.{◌≡◌, ℕ, suc, ◌+◌, ◌-◌, ◌*◌, ◌^◌, Bool, true, false, cond, ◌&&◌, List, [], ◌∷◌, length, ℤ, pos, negsuc, ◌==◌, nat_le, nat_lt}
+use Rattle.std.specs.Prelude.{ℕ, suc, ◌-◌, ◌*◌, ◌^◌, Bool, false, cond, List, [], ◌∷◌, length, ℤ, pos, negsuc, ◌==◌, nat_le, nat_lt}
 use Rattle.text.specs.NumberWorth.{value, SameWorth}
-use Rattle.text.specs.NormalForm.{Form as DecimalForm, WholeForm}
+use Rattle.text.specs.NormalForm.{Form as DecimalForm}
 use Rattle.model.specs.Values.{Dec}
 
 -- whether the text of a whole number has a minus, and its digits

@@ -1,6 +1,6 @@
 -- Refusals: what each case of an answer carries.
-use Rattle.std.specs.Prelude.{ℕ, Bool, true, false, cond}
-use Rattle.std.proofs.Math.Option.{Option, none, some}
+use Rattle.std.specs.Prelude.{ℕ, Bool, true, cond}
+use Rattle.std.proofs.Math.Option.{Option, some}
 use Rattle.model.specs.Values.{Name}
 
 pub data Cause : Type 0 where

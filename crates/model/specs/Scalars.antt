@@ -1,7 +1,7 @@
 -- Input coercion of scalars and enums (sections 3.5 and 3.9), as a relation and as a function.
-use Rattle.std.specs.Prelude.{◌≡◌, ℕ, Bool, true, false, cond, List, [], ◌∷◌, nat_lt}
+use Rattle.std.specs.Prelude.{◌≡◌, ℕ, Bool, true, cond, List, nat_lt}
 use Rattle.std.proofs.Math.Option.{Option, none, some}
-use Rattle.model.specs.Values.{Name, Form, json, literal, Dec, Scalar, boolean, whole, decimal, string, symbol, Field, Def, int_d, float_d, string_d, boolean_d, id_d, enum_d, input_d, custom_d, output_d, Plain, p_boolean, p_whole, p_decimal, p_string, has}
+use Rattle.model.specs.Values.{Name, Form, json, literal, Dec, Scalar, boolean, whole, decimal, string, symbol, Def, int_d, float_d, string_d, boolean_d, id_d, enum_d, input_d, custom_d, output_d, Plain, p_boolean, p_whole, p_decimal, p_string, has}
 use Rattle.model.specs.Numbers.{magnitude, in_int, is_safe, float_bound, is_finite, decimal_of}
 
 -- a scalar as it is kept without a type: enum names as strings

@@ -1,7 +1,7 @@
 -- What a raw value comes to at a type: the acceptances alone, with neither refusals nor bounds.
-use Rattle.std.specs.Prelude.{◌≡◌, ℕ, Bool, true, false, cond, List, [], ◌∷◌}
+use Rattle.std.specs.Prelude.{◌≡◌, ℕ, Bool, true, List, [], ◌∷◌}
 use Rattle.std.proofs.Math.Option.{Option, none, some}
-use Rattle.model.specs.Values.{Name, Form, json, literal, Scalar, Raw, Raws, Mems, null, scalar, variable, list, object, nil, cons, end, mem, Ty, named, list_of, nullable, Field, Def, input_d, custom_d, Schema, find, Plain, Rec, Recs, Rmems, r_null, r_plain, r_list, r_object, r_nil, r_cons, r_end, r_mem, field_names}
+use Rattle.model.specs.Values.{Name, Form, literal, Scalar, Raw, Raws, Mems, null, scalar, variable, list, object, nil, cons, end, mem, Ty, named, list_of, nullable, Field, input_d, custom_d, Schema, find, Plain, Rec, Recs, Rmems, r_null, r_plain, r_list, r_object, r_nil, r_cons, r_end, r_mem, field_names}
 use Rattle.model.specs.Records.{encode}
 use Rattle.model.specs.Scalars.{plain, TakesScalar}
 use Rattle.model.specs.Coercion.{Rule, passes, first_undeclared, member}

@@ -1,6 +1,6 @@
 -- Raw values, types, schemas, operations and records (sections 2.9, 3 and 2.12 of the GraphQL specification, October 2021).
 use Rattle.std.specs.Prelude.{ℕ, Bool, true, false, cond, ◌&&◌, List, [], ◌∷◌, ℤ, codes, ◌==◌}
-use Rattle.std.proofs.Math.Option.{Option, none, some}
+use Rattle.std.proofs.Math.Option.{Option}
 
 -- a name or a text, by its bytes
 abbrev pub Name : Type 0

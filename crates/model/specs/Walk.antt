@@ -2,11 +2,11 @@
 -- A record is opened after the tests of its value and before its contents, its member name with it, first against depth, then against the capacity.
 use Rattle.std.specs.Prelude.{ℕ, zero, suc, ◌+◌, Bool, true, false, cond, List, [], ◌∷◌, length, nat_le}
 use Rattle.std.proofs.Math.Option.{Option, none, some}
-use Rattle.model.specs.Values.{Name, Form, json, literal, Scalar, Raw, Raws, Mems, null, scalar, variable, list, object, nil, cons, end, mem, place_of, Ty, named, list_of, nullable, Field, Def, int_d, float_d, string_d, boolean_d, id_d, enum_d, input_d, custom_d, output_d, Schema, find, Variable, Plain, Rec, Recs, Rmems, r_null, r_plain, r_list, r_object, r_nil, r_cons, r_end, r_mem, same, has, field_names}
+use Rattle.model.specs.Values.{Name, Form, literal, Scalar, Raw, Raws, Mems, null, scalar, variable, list, object, nil, cons, end, mem, Ty, named, list_of, nullable, Field, Def, int_d, float_d, string_d, boolean_d, id_d, enum_d, input_d, custom_d, output_d, Schema, find, Variable, Rec, Recs, Rmems, r_null, r_plain, r_list, r_object, r_nil, r_cons, r_end, r_mem, same, field_names}
 use Rattle.model.specs.Records.{size}
-use Rattle.model.specs.Refusals.{Cause, too_deep, no_space, null_value, wrong_value, unknown_key, missing_field, missing_variable, scalar_refused, variable_in_value, Out, ok, refused, beyond, and_then, Here, refuse, in_field, as_default}
+use Rattle.model.specs.Refusals.{too_deep, no_space, null_value, wrong_value, missing_field, missing_variable, variable_in_value, Out, ok, beyond, and_then, Here, refuse, in_field}
 use Rattle.model.specs.Scalars.{plain, scalar_at}
-use Rattle.model.specs.Coercion.{Rule, ruled, or_wrong, one, first_undeclared, if_declared, absent, field_at, put, for_variable, Slots}
+use Rattle.model.specs.Coercion.{Rule, ruled, or_wrong, one, first_undeclared, if_declared, field_at, put, for_variable}
 
 -- the deepest record
 abbrev pub deepest : ℕ

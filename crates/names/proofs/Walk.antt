@@ -4,7 +4,7 @@ use Rattle.std.proofs.lemmas.List.{get_or_read}
 use Rattle.names.specs.declared.names.Link.{Link}
 use Rattle.names.specs.Parts.{PartFits, bytes_of}
 use Rattle.names.specs.Bits.{hash_of_lem, bit_of}
-use Rattle.names.specs.Index.{blank, child_of, name_at, Child, Leads, here, down, Goes, start, on, Sound, Leaf, Found}
+use Rattle.names.specs.Index.{blank, child_of, name_at, Child, Leads, here, down, Goes, start, on, Sound, Leaf}
 
 -- the walk came to `at`, and every link with the name is still ahead
 pub record Walking (text pool : List ℕ) (links : List Link) (base h : ℕ) (n : List ℕ) (at level : ℕ) : Type 0 where

@@ -1,5 +1,5 @@
 -- The values that tokens begin.
-use Rattle.std.proofs.Common.{◌≡◌, ℕ, ◌≤◌, Bool, true, false, List, length, Ok, Err, Result, sym, refl, ap, ◌∙◌, subst, true≢false}
+use Rattle.std.proofs.Common.{◌≡◌, ℕ, Bool, true, false, List, Ok, Err, Result, sym, refl, ap, ◌∙◌, subst, true≢false}
 use Rattle.model.specs.Values.{Raw}
 use Rattle.text.specs.declared.fault.Fault.{Fault}
 use Rattle.text.specs.declared.fault.Fault.TheVariants.{BadText, TooDeep, NoSpace, RepeatedName, LongNumber, NoMemory}
@@ -7,15 +7,15 @@ use Rattle.text.specs.declared.language.Language.{Language}
 use Rattle.text.specs.declared.token.Lexeme.{Lexeme}
 use Rattle.text.specs.declared.token.Token.{Token}
 use Rattle.text.specs.declared.token.Token.TheVariants.{Bang, Dollar, Ampersand, OpenParen, CloseParen, Spread, Colon, Equals, At, OpenBracket, CloseBracket, OpenBrace, Pipe, CloseBrace, Comma, Name, Whole, Decimal, Text, End}
-use Rattle.text.specs.TokenGrammar.{Mark, bang, dollar, ampersand, open_paren, close_paren, spread, colon, equals, at_sign, open_bracket, close_bracket, open_brace, pipe, close_brace, comma, Lexical, a_mark, a_name, a_number, a_string, the_end}
+use Rattle.text.specs.TokenGrammar.{bang, dollar, ampersand, open_paren, close_paren, spread, colon, equals, at_sign, open_bracket, close_bracket, open_brace, pipe, close_brace, comma, Lexical, a_mark, a_name, a_number, a_string, the_end}
 use Rattle.text.specs.TokenFound.{view_of, Holds}
 use Rattle.names.specs.declared.part.Part.{Part}
 use Rattle.source.specs.declared.nodes.Node.{Node}
 use Rattle.reader.specs.declared.manner.Manner.{Manner}
-use Rattle.reader.specs.Tokens.{Sights, blind, Seen}
+use Rattle.reader.specs.Tokens.{Sights, blind}
 use Rattle.reader.specs.Grammar.{Leaf, l_null, l_true, l_false, l_symbol, l_whole, l_decimal, l_string}
 use Rattle.reader.specs.Reading.{fails, Starts, starts_leaf, starts_list, starts_object, starts_variable, Reads, r_blind, r_none}
-use Rattle.reader.specs.Told.{Blames, Lexed, LeafNode, LeafTold, NodeFor, StartNode, StartTold, Looks, BeginTold}
+use Rattle.reader.specs.Told.{Blames, Lexed, LeafNode, LeafTold, NodeFor, StartNode, StartTold, Looks}
 
 -- a token as its variant
 pub holds_as : {language : Language} {text : List ℕ} {l : Lexeme} (k : Lexed language text l) (t : Token) → l.token ≡ t → Holds language text l.start l.end (view_of t) k.token

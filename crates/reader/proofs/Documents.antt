@@ -1,12 +1,10 @@
 -- A text that is one value: what reading it comes to, and what the grammar says of it.
-use Rattle.std.proofs.Common.{◌≡◌, ℕ, ◌<◌, ◌≤◌, Bool, true, List, length, Ok, Err, Result, sym, refl, ap, ◌∙◌, subst, arith}
+use Rattle.std.proofs.Common.{◌≡◌, ℕ, true, List, sym, ◌∙◌, arith}
 use Rattle.model.specs.Values.{Raw}
 use Rattle.text.specs.declared.fault.Fault.{Fault}
 use Rattle.text.specs.declared.language.Language.{Language}
 use Rattle.source.specs.Table.{Table}
-use Rattle.reader.specs.declared.manner.Manner.{Manner}
 use Rattle.reader.specs.Tokens.{TokenIs, Sights}
-use Rattle.reader.specs.Reading.{Out, got, fails, ReadsAll}
 use Rattle.reader.specs.Told.{Blames}
 use Rattle.reader.specs.Document.{Writes, FirstFault, too_long, reading, Parsed, Unreadable, ReadWhole, FaultWhole, whole_long, whole_read, OneReading}
 use Rattle.reader.proofs.RdSights.{sure, one_sight, seen_is, sights_number}

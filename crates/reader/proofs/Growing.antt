@@ -1,24 +1,24 @@
 -- What one turn of the readers keeps, and what their ends come to.
-use Rattle.std.proofs.Common.{◌≡◌, ℕ, ◌+◌, ◌-◌, ◌<◌, ◌≤◌, Bool, true, false, List, [], ◌∷◌, ◌++◌, length, take, Ok, Err, Result, sym, refl, ap, ◌∙◌, subst, arith}
+use Rattle.std.proofs.Common.{◌≡◌, ℕ, ◌+◌, ◌-◌, ◌<◌, ◌≤◌, false, List, [], ◌∷◌, ◌++◌, length, take, Ok, Err, Result, sym, refl, ap, ◌∙◌, subst, arith}
 use Rattle.std.proofs.lemmas.List.{take_all}
-use Rattle.model.specs.Values.{Name, Raw, Raws, Mems, list, object, variable, nil, cons, end, mem, place_of}
+use Rattle.model.specs.Values.{Name, Raw, Raws, Mems, list, object, nil, cons, end, mem}
 use Rattle.text.specs.declared.fault.Fault.{Fault}
 use Rattle.text.specs.declared.fault.Fault.TheVariants.{BadText, TooDeep, NoSpace, RepeatedName, LongNumber, NoMemory}
-use Rattle.text.specs.TokenGrammar.{Lexical, a_mark, open_bracket, close_bracket, open_brace, close_brace, dollar}
+use Rattle.text.specs.TokenGrammar.{Lexical, a_mark, open_bracket, close_bracket, open_brace, close_brace}
 use Rattle.names.specs.declared.names.Link.{Link}
 use Rattle.names.specs.declared.part.Part.{Part}
 use Rattle.names.specs.Parts.{PartFits, bytes_of}
 use Rattle.source.specs.declared.nodes.Node.{Node}
 use Rattle.source.specs.Nodes.{node_at}
-use Rattle.source.specs.Table.{Table, Says, Head, Named, Stands, StandsAll, StandsMems, Keeps, past_of}
-use Rattle.source.proofs.Keeping.{keeps_all, keeps_on, keeps_fewer, says_kept, stands_kept, all_kept, mems_kept, past_kept, named_kept, fits_kept, bytes_kept}
+use Rattle.source.specs.Table.{Table, Says, Named, Stands, StandsAll, StandsMems, Keeps, past_of}
+use Rattle.source.proofs.Keeping.{keeps_all, keeps_on, says_kept, stands_kept, all_kept, mems_kept, past_kept, named_kept, fits_kept, bytes_kept}
 use Rattle.source.proofs.Standings.{head_of}
 use Rattle.reader.specs.declared.manner.Manner.{Manner}
 use Rattle.reader.specs.Grammar.{Leaf, l_null, l_true, l_false, l_symbol, l_whole, l_decimal, l_string}
-use Rattle.reader.specs.Tokens.{Sight, sees, blind, Sights}
-use Rattle.reader.specs.Reading.{Out, got, fails, turn, done, again, halts, sees_mark, NameAt, Reads, r_list, r_object, ReadsList, rl_nil, rl_items, ReadsItems, ri_fails, ri_halts, ri_last, ri_more, ReadsObject, ro_end, ro_members, ReadsMembers, rm_unnamed, rm_fails, rm_halts, rm_last, rm_more}
-use Rattle.reader.specs.Told.{Blames, Added, Told, Opened, ItemsAdded, ItemsTold, MembersAdded, NameRead, PartFor}
-use Rattle.reader.proofs.Tables.{Pushed, Pooled, Closed, pooled_keeps, pushed_keeps, pushed_long, pushed_node, closed_keeps, closed_here, closed_long, closed_other, keeps_closed, says_sized, leaf_head}
+use Rattle.reader.specs.Tokens.{Sight, sees, Sights}
+use Rattle.reader.specs.Reading.{got, fails, turn, done, again, sees_mark, NameAt, Reads, r_list, r_object, rl_nil, rl_items, ReadsItems, ri_last, ri_more, ro_end, ro_members, ReadsMembers, rm_last, rm_more}
+use Rattle.reader.specs.Told.{Blames, Added, Told, Opened, ItemsAdded, MembersAdded, NameRead}
+use Rattle.reader.proofs.Tables.{Pushed, Pooled, Closed, pooled_keeps, pushed_keeps, pushed_long, pushed_node, closed_keeps, closed_here, closed_long, keeps_closed, says_sized, leaf_head}
 
 pub blames_map : (P Q : Fault → Type 0) → ((g : Fault) → P g → Q g) → (f : Fault) → Blames f P → Blames f Q
 blames_map P Q h (BadText k) p = h (BadText k) p

@@ -1,26 +1,22 @@
 -- Tokens, and the nodes of values that are one token.
-use Rattle.std.proofs.Common.{◌≡◌, ℕ, zero, suc, ◌+◌, ◌-◌, ◌*◌, ◌^◌, ◌<◌, ◌≤◌, Bool, true, false, ◌≢◌, List, [], ◌∷◌, ◌++◌, length, take, drop, ℤ, pos, ◌-ℤ◌, neg_ℤ, nat_abs, IfOk, Ok, Err, Result, sym, refl, ap, ◌∙◌, subst, ⊎_elim, append-nil, arith, length-append}
-use lib.Utf8.{encodes}
+use Rattle.std.proofs.Common.{◌≡◌, ℕ, zero, suc, ◌+◌, ◌-◌, ◌*◌, ◌^◌, ◌≤◌, Bool, true, false, List, [], ◌∷◌, ◌++◌, length, take, drop, ℤ, pos, ◌-ℤ◌, neg_ℤ, nat_abs, IfOk, Ok, Err, Result, sym, refl, ap, ◌∙◌, subst, ⊎_elim, append-nil, arith, length-append}
 use Rattle.std.proofs.lemmas.Bool.{cases_Bool}
 use Rattle.std.proofs.lemmas.List.{drop_at, drop-drop, take_all}
-use Rattle.model.specs.Values.{Name, Raw, null, scalar, boolean, whole, decimal, string, symbol, list, object, variable, nil, end, same, place_of}
-use Rattle.model.proofs.CoNames.{same_true, same_refl}
+use Rattle.model.specs.Values.{Raw, same, place_of}
+use Rattle.model.proofs.CoNames.{same_true}
 use Rattle.text.specs.declared.fault.Fault.{Fault}
-use Rattle.text.specs.declared.fault.Fault.TheVariants.{BadText, TooDeep, NoSpace, RepeatedName, LongNumber, NoMemory}
 use Rattle.text.specs.declared.language.Language.{Language}
 use Rattle.text.specs.declared.number.NumberKind.{NumberKind}
-use Rattle.text.specs.declared.number.NumberKind.TheVariants.{Whole, Decimal}
 use Rattle.text.specs.declared.decimal.Scale.{Scale}
 use Rattle.text.specs.declared.token.Lexeme.{Lexeme}
 use Rattle.text.specs.Cuts.{part}
 use Rattle.text.specs.Places.{Placed, is_end}
-use Rattle.text.specs.NumberGrammar.{Optional, without, with, IsMinus, minus, IsFrac, frac, IsSign, sign_minus, sign_plus, IsMark, IsDigit, Digits, IsExp, exp, Number}
+use Rattle.text.specs.NumberGrammar.{Optional, without, with, IsMinus, minus, IsFrac, frac, sign_minus, sign_plus, IsExp, exp}
 use Rattle.text.specs.NumberScan.{size_in}
-use Rattle.text.specs.NumberWorth.{value, Minus, no_minus, one_minus, Fraction, no_fraction, fraction, Power, no_power, plain, more, less, Writes}
-use Rattle.text.specs.NormalForm.{Normal, WholeOf, Beyond, long, great, Added, Told}
-use Rattle.text.specs.TokenGrammar.{Lexical, a_mark, a_name, a_number, a_string, Numeral}
+use Rattle.text.specs.NumberWorth.{value, Minus, no_minus, one_minus, Fraction, no_fraction, fraction, Power, no_power, plain, more, less}
+use Rattle.text.specs.NormalForm.{WholeOf, Beyond, long, great}
+use Rattle.text.specs.TokenGrammar.{Numeral}
 use Rattle.text.specs.TokenFound.{TokenTold}
-use Rattle.text.specs.StringDecode.{Decoded, DecodeTold}
 use Rattle.text.proofs.LexBase.{cut, length_part}
 use Rattle.names.specs.declared.part.Part.{Part}
 use Rattle.names.specs.Parts.{PartFits, bytes_of}
@@ -28,9 +24,7 @@ use Rattle.source.specs.declared.nodes.Node.{Node}
 use Rattle.source.specs.declared.raw.Kind.{Kind}
 use Rattle.source.specs.Heads.{kind_of, flag_of, negative_of, exponent_of, text_of}
 use Rattle.source.specs.Nodes.{headed, nowhere}
-use Rattle.source.specs.Table.{Says}
-use Rattle.reader.specs.Grammar.{Leaf, l_null, l_true, l_false, l_symbol, l_whole, l_decimal, l_string, name_of_null, name_of_true, name_of_false}
-use Rattle.reader.specs.Told.{LookTold, LeafNode, LeafTold, NodeFor, PartFor, PartTold, bare}
+use Rattle.reader.specs.Told.{LookTold, NodeFor}
 
 pub look_of : (language : Language) (text : List ℕ) (at : ℕ) (r : Result Lexeme Fault) → TokenTold language text at r → IfOk r (λ l. Placed (length text) at l.start l.end (is_end l.token)) → LookTold language text at r
 look_of language text at (Ok l) t p = record {

@@ -1,15 +1,13 @@
 -- The names of members.
-use Rattle.std.proofs.Common.{◌≡◌, ℕ, ◌-◌, ◌<◌, ◌≤◌, Bool, true, false, List, [], ◌∷◌, ◌++◌, length, take, Ok, sym, refl, ap, ◌∙◌, subst, arith}
+use Rattle.std.proofs.Common.{◌≡◌, ℕ, ◌-◌, ◌≤◌, Bool, true, false, List, [], ◌∷◌, ◌++◌, length, take, Ok, sym, ap, ◌∙◌, subst, arith}
 use Rattle.std.proofs.lemmas.Bool.{cond-true, cond-false}
 use Rattle.model.specs.Values.{Name}
 use Rattle.text.specs.declared.fault.Fault.TheVariants.{BadText}
-use Rattle.text.specs.declared.language.Language.{Language}
 use Rattle.text.specs.TokenGrammar.{Lexical, colon}
-use Rattle.text.specs.Cuts.{part}
 use Rattle.text.proofs.LexBase.{length_part}
 use Rattle.names.specs.declared.names.Link.{Link}
 use Rattle.names.specs.declared.part.Part.{Part}
-use Rattle.names.specs.Parts.{PartFits, bytes_of, holder}
+use Rattle.names.specs.Parts.{holder}
 use Rattle.names.proofs.Growth.{sound_pool, names_pool, sound_none}
 use Rattle.names.specs.Index.{names_from}
 use Rattle.reader.specs.Tokens.{sees}

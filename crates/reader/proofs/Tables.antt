@@ -1,16 +1,15 @@
 -- Tables that grow by a node, by the pool, and by the end of a list or an object.
-use Rattle.std.proofs.Common.{◌≡◌, ℕ, ◌+◌, ◌-◌, ◌<◌, ◌≤◌, true, ◌≢◌, List, [], ◌∷◌, ◌++◌, length, get_or, set, sym, refl, ap, ◌∙◌, subst, append-nil, arith, length-append, length-set, get_or-set_other, get_or-set_same, lt-ltb}
+use Rattle.std.proofs.Common.{◌≡◌, ℕ, ◌+◌, ◌-◌, ◌<◌, ◌≢◌, List, [], ◌∷◌, ◌++◌, length, set, sym, refl, ap, ◌∙◌, subst, append-nil, arith, length-append, length-set, get_or-set_other, get_or-set_same, lt-ltb}
 use lib.Seq.{get_or_at}
 use Rattle.std.proofs.lemmas.List.{get_or_append_left}
 use Rattle.std.proofs.lemmas.Bool.{cond-true}
-use Rattle.model.specs.Values.{Raw, Raws, Mems, null, scalar, variable, list, object, place_of}
-use Rattle.names.specs.declared.part.Part.{Part}
+use Rattle.model.specs.Values.{Raw, place_of}
 use Rattle.names.specs.Parts.{PartFits, bytes_of}
 use Rattle.source.specs.declared.nodes.Node.{Node}
 use Rattle.source.specs.Heads.{kind_of, flag_of, text_of, negative_of, exponent_of}
 use Rattle.source.specs.Nodes.{node_at, blank, sized, closed}
-use Rattle.source.specs.Table.{Table, Says, Head, Stands, Keeps, past_of}
-use Rattle.source.proofs.Keeping.{says_kept, keeps_fewer}
+use Rattle.source.specs.Table.{Table, Says, Head, Keeps}
+use Rattle.source.proofs.Keeping.{says_kept}
 
 -- U is T with a node more
 pub record Pushed (T U : Table) (n : Node) : Type 0 where

@@ -1,6 +1,6 @@
 -- What a token is, as the grammar sees it.
-use Rattle.std.proofs.Common.{◌≡◌, ℕ, ◌<◌, ◌≤◌, Bool, true, false, cond, List, [], length, sym, refl, ap, ◌∙◌, subst, true≢false, arith}
-use mathlib.Core.Option.{Option, none, some}
+use Rattle.std.proofs.Common.{◌≡◌, ℕ, ◌<◌, ◌≤◌, Bool, true, false, List, [], length, sym, refl, ap, ◌∙◌, subst, true≢false, arith}
+use mathlib.Core.Option.{none}
 use Rattle.std.proofs.lemmas.Bool.{cond-true, cond-false}
 use Rattle.model.specs.Values.{Raw, list, object, variable, nil, end, place_of}
 use Rattle.text.specs.declared.fault.Fault.TheVariants.{BadText}
@@ -10,7 +10,7 @@ use Rattle.text.specs.declared.token.Lexeme.{Lexeme}
 use Rattle.text.specs.declared.token.Token.{Token}
 use Rattle.text.specs.declared.token.Token.TheVariants.{Bang, Dollar, Ampersand, OpenParen, CloseParen, Spread, Colon, Equals, At, OpenBracket, CloseBracket, OpenBrace, Pipe, CloseBrace, Comma, Name, Whole, Decimal, Text, End}
 use Rattle.text.specs.Places.{is_end}
-use Rattle.text.specs.TokenGrammar.{Mark, bang, dollar, ampersand, open_paren, close_paren, spread, colon, equals, at_sign, open_bracket, close_bracket, open_brace, pipe, close_brace, comma, Lexical, a_mark, a_name, a_number, a_string, the_end}
+use Rattle.text.specs.TokenGrammar.{Mark, dollar, open_bracket, open_brace, comma, Lexical, a_mark}
 use Rattle.text.specs.TokenFound.{View, v_mark, v_name, v_number, v_text, v_end, view_of, Holds}
 use Rattle.names.specs.declared.part.Part.{Part}
 use Rattle.source.specs.declared.nodes.Node.{Node}
@@ -19,11 +19,11 @@ use Rattle.source.specs.declared.raw.Kind.TheVariants.{Null, Boolean, Whole as W
 use Rattle.source.specs.Heads.{kind_of}
 use Rattle.source.specs.Table.{Table, Says}
 use Rattle.reader.specs.declared.manner.Manner.{Manner}
-use Rattle.reader.specs.Tokens.{Sight, sees, blind, Seen}
+use Rattle.reader.specs.Tokens.{sees, blind, Seen}
 use Rattle.reader.specs.Grammar.{Leaf, l_null, l_true, l_false, l_symbol, l_whole, l_decimal, l_string, name_of}
 use Rattle.reader.specs.Closings.{view_mark}
-use Rattle.reader.specs.Reading.{Out, got, fails, Starts, starts_leaf, starts_list, starts_object, starts_variable, is_mark, turn, done, again, halts, as_variable, after_all}
-use Rattle.reader.specs.Told.{Lexed, Looks, StartNode, NodeFor, Begun, Opened, bare}
+use Rattle.reader.specs.Reading.{fails, Starts, starts_leaf, starts_list, starts_object, starts_variable, is_mark, turn, done, again, halts, as_variable, after_all}
+use Rattle.reader.specs.Told.{Lexed, Begun, Opened, bare}
 use Rattle.reader.proofs.Beginning.{no_start}
 use Rattle.reader.proofs.Tables.{says_bare}
 

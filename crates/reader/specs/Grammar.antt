@@ -4,12 +4,12 @@
 use Rattle.std.specs.Prelude.{◌≡◌, ℕ, true, false, ◌≢◌, List, [], ◌∷◌}
 use Rattle.std.proofs.Math.Option.{Option, none, some}
 use Rattle.std.proofs.Math.Utf8.{encodes}
-use Rattle.model.specs.Values.{Name, Dec, Scalar, boolean, whole, decimal, string, symbol, Raw, Raws, Mems, null, scalar, variable, list, object, nil, cons, end, mem}
+use Rattle.model.specs.Values.{Name, Dec, boolean, whole, decimal, string, symbol, Raw, Raws, Mems, null, scalar, variable, list, object, nil, cons, end, mem}
 use Rattle.text.specs.declared.language.Language.{Language}
 use Rattle.text.specs.declared.language.Language.TheVariants.{Json, Graphql}
 use Rattle.text.specs.declared.number.NumberKind.TheVariants.{Whole, Decimal}
 use Rattle.text.specs.NormalForm.{Normal, WholeOf}
-use Rattle.text.specs.TokenGrammar.{Mark, dollar, colon, open_bracket, close_bracket, open_brace, close_brace, comma, Lexical, a_mark, a_name, a_number, a_string, the_end}
+use Rattle.text.specs.TokenGrammar.{dollar, colon, open_bracket, close_bracket, open_brace, close_brace, comma, Lexical, a_mark, a_name, a_number, a_string, the_end}
 
 -- null, true, false
 abbrev pub name_of_null : Name

@@ -1,5 +1,5 @@
 -- What the functions of the reader promise.
-use Rattle.std.specs.Prelude.{◌≡◌, ℕ, ◌+◌, ◌-◌, ◌<◌, ◌≤◌, Bool, true, false, List, [], ◌∷◌, ◌++◌, length, take, drop, Ok, Err, Result}
+use Rattle.std.specs.Prelude.{◌≡◌, ℕ, ◌<◌, ◌≤◌, Bool, true, false, List, [], ◌∷◌, ◌++◌, length, take, drop, Ok, Err, Result}
 use Rattle.std.proofs.Math.Option.{none, some}
 use Rattle.model.specs.Values.{Name, Raw, Raws, Mems}
 use Rattle.text.specs.declared.fault.Fault.{Fault}
@@ -20,9 +20,9 @@ use Rattle.source.specs.Table.{Table, Says, Stands, StandsAll, StandsMems, Keeps
 use Rattle.reader.specs.declared.manner.Manner.{Manner}
 use Rattle.reader.specs.declared.manner.Step.{Step}
 use Rattle.reader.specs.declared.manner.Step.TheVariants.{Again, Done}
-use Rattle.reader.specs.Tokens.{Sight, sees, blind, Seen, Sights}
+use Rattle.reader.specs.Tokens.{Sight, blind, Seen, Sights}
 use Rattle.reader.specs.Grammar.{Leaf, name_of}
-use Rattle.reader.specs.Reading.{Out, got, fails, Starts, turn, done, again, halts, repeats, NameAt, Reads, ReadsList, ReadsItems, ReadsObject, ReadsMembers}
+use Rattle.reader.specs.Reading.{got, fails, Starts, turn, done, again, halts, repeats, NameAt, Reads, ReadsList, ReadsObject}
 
 -- P of a fault of the text; of want of memory nothing is said
 abbrev pub Blames : Fault → (Fault → Type 0) → Type 0

@@ -1,5 +1,5 @@
 -- The bytes of a sheet after a load.
-use Rattle.std.proofs.Common.{◌≡◌, ℕ, ◌+◌, ◌-◌, ◌≤◌, true, List, ◌++◌, length, take, drop, replicate, IfOk, IfErr, Ok, Err, Result, sym, refl, ap, ◌∙◌, subst, arith, length-append}
+use Rattle.std.proofs.Common.{◌≡◌, ℕ, ◌-◌, ◌≤◌, true, List, ◌++◌, length, take, drop, replicate, IfOk, IfErr, Ok, Err, Result, sym, ap, ◌∙◌, subst, arith, length-append}
 use Rattle.std.proofs.lemmas.List.{drop_at, length-replicate, length-take-le}
 use Rattle.sheet.specs.Loads.{Replaced}
 use Rattle.sheet.specs.declared.held.Contents.{Contents}

@@ -1,12 +1,10 @@
 -- One tree at most stands at a cursor.
-use Rattle.std.proofs.Common.{◌≡◌, ℕ, ◌+◌, ◌<◌, ◌≤◌, Bool, List, ℤ, sym, refl, ap, ◌∙◌, subst, arith}
+use Rattle.std.proofs.Common.{◌≡◌, ℕ, ◌+◌, ◌<◌, sym, refl, ap, ◌∙◌, arith}
 use Rattle.model.specs.Values.{Dec, Scalar, boolean, whole, decimal, string, symbol, Raw, Raws, Mems, null, scalar, variable, list, object, nil, cons, end, mem}
 use Rattle.source.specs.declared.raw.Kind.{Kind}
 use Rattle.source.specs.declared.raw.Kind.TheVariants.{Null, Boolean, Whole, Decimal, String, Enum, Variable, List as ListKind, Object}
-use Rattle.source.specs.declared.nodes.Node.{Node}
 use Rattle.source.specs.Heads.{scalar_kind, scalar_flag, scalar_text, scalar_negative, scalar_exponent, kind_of}
-use Rattle.source.specs.Nodes.{node_at}
-use Rattle.source.specs.Table.{Table, Says, Head, Named, Stands, StandsAll, StandsMems, Held, past_of}
+use Rattle.source.specs.Table.{Table, Head, Stands, StandsAll, StandsMems, Held}
 use Rattle.source.specs.Standing.{Lawful}
 use Rattle.source.proofs.Standings.{head_of, forward_all, forward_mems}
 

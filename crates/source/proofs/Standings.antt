@@ -1,5 +1,5 @@
 -- Trees over the table of nodes.
-use Rattle.std.proofs.Common.{◌≡◌, ℕ, suc, ◌+◌, ◌-◌, ◌<◌, ◌≤◌, Bool, true, false, cond, List, length, Some, None, sym, refl, ap, ◌∙◌, subst, ⊎_elim, add-one, arith}
+use Rattle.std.proofs.Common.{◌≡◌, ℕ, suc, ◌+◌, ◌-◌, ◌<◌, ◌≤◌, true, List, Some, None, sym, ap, subst, ⊎_elim, arith}
 use mathlib.Core.Option.{some}
 use Rattle.std.proofs.lemmas.Bool.{cond-true, cond-false, cases_Bool}
 use Rattle.model.proofs.CoNames.{same_refl, same_true}
@@ -7,7 +7,6 @@ use Rattle.model.specs.Values.{Raw, Raws, Mems, null, scalar, variable, list, ob
 use Rattle.model.specs.Coercion.{member}
 use Rattle.model.specs.Limits.{RawLimits, RawLimitsAll, RawLimitsMems}
 use Rattle.source.specs.declared.raw.Span.{Span}
-use Rattle.source.specs.declared.nodes.Node.{Node}
 use Rattle.source.specs.Nodes.{node_at}
 use Rattle.source.specs.Table.{Table, Says, Head, Named, Stands, StandsAll, StandsMems, Held, HeldAll, HeldMems, past_of}
 use Rattle.source.specs.Standing.{LeadsItems, LeadsMembers, Found}

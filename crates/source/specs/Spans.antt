@@ -1,5 +1,5 @@
 -- Spans of nodes.
-use Rattle.std.specs.Prelude.{◌≡◌, ℕ, ◌+◌, ◌-◌, ◌<◌, ◌≤◌}
+use Rattle.std.specs.Prelude.{◌≡◌, ℕ, ◌-◌, ◌<◌, ◌≤◌}
 use Rattle.source.specs.declared.raw.Span.{Span}
 use Rattle.source.specs.Standing.{width}
 

@@ -5,7 +5,7 @@ use Rattle.std.proofs.lemmas.Int.{ints, to_z-of_z}
 use Rattle.text.specs.Cuts.{part}
 use Rattle.text.specs.declared.decimal.Scale.{Scale}
 use Rattle.model.specs.Values.{p_boolean, p_whole, p_decimal, p_string, Rec, r_null, r_plain, r_list, r_object, Raw, place_of}
-use Rattle.model.specs.Records.{kind, body, twos, truth, ExponentFits}
+use Rattle.model.specs.Records.{kind, twos, truth, ExponentFits}
 use Rattle.source.specs.Heads.{kind_of, flag_of, text_of}
 use Rattle.source.specs.Standing.{Scaled}
 use Rattle.stored.specs.declared.stored.Target.{Target}

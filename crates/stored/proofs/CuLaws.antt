@@ -2,7 +2,7 @@
 use Rattle.std.proofs.Common.{◌≡◌, ℕ, ◌+◌, ◌-◌, ◌≢◌, List, ◌++◌, length, sym, refl, ap, ◌∙◌, subst, arith}
 use Rattle.std.proofs.lemmas.List.{append-nil, drop_all, take_all}
 use Rattle.model.specs.Values.{Rec}
-use Rattle.model.specs.Records.{kind, body, encode_mems, framed}
+use Rattle.model.specs.Records.{kind, body, encode_mems}
 use Rattle.stored.specs.declared.header.Frame.{Frame}
 use Rattle.stored.specs.declared.stored.Target.{Target}
 use Rattle.stored.specs.Frames.{past, Framed, Unframed, Fills, FrameAt}

@@ -3,7 +3,7 @@ use Rattle.std.proofs.Common.{◌≡◌, ℕ, suc, ◌+◌, ◌-◌, ◌≤◌, 
 use Rattle.std.proofs.lemmas.List.{append_assoc, append-nil, append_cancel_right, drop-drop, drop_at, drop_all}
 use Rattle.text.specs.declared.fault.Fault.{Fault}
 use Rattle.model.specs.Values.{Name, Plain, Rec, Recs, Rmems, r_null, r_plain, r_list, r_object, r_nil, r_cons, r_end, r_mem, has}
-use Rattle.model.specs.Records.{kind, body, encode, encode_all, encode_mems, framed, plain_kind, plain_body, DecodesSheet}
+use Rattle.model.specs.Records.{kind, encode, encode_all, encode_mems, framed, plain_kind, plain_body, DecodesSheet}
 use Rattle.model.specs.Limits.{RecLimits, RecLimitsAll, RecLimitsMems}
 use Rattle.stored.specs.Frames.{past, Framed, Fills}
 use Rattle.stored.specs.Contents.{IsLeaf}

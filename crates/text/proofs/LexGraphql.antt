@@ -1,17 +1,15 @@
 -- The tokens of GraphQL by their first byte.
-use Rattle.std.proofs.Common.{◌≡◌, ℕ, suc, ◌+◌, ◌-◌, ◌<◌, ◌≤◌, Bool, ◌≢◌, ◌⊎◌, List, [], ◌∷◌, ◌++◌, length, get_or, take, drop, sym, refl, ap, ◌∙◌, subst, inl, inr, ⊎_elim, arith}
-use Rattle.std.specs.Int.{IsInRange}
+use Rattle.std.proofs.Common.{◌≡◌, ℕ, suc, ◌+◌, ◌-◌, ◌<◌, ◌≤◌, Bool, ◌≢◌, ◌⊎◌, List, [], ◌∷◌, ◌++◌, length, get_or, take, drop, sym, refl, ap, ◌∙◌, subst, inl, inr, arith}
 use Rattle.text.specs.declared.language.Language.TheVariants.{Graphql}
 use Rattle.text.specs.declared.number.NumberKind.{NumberKind}
-use Rattle.text.specs.NumberGrammar.{IsDigit}
-use Rattle.text.specs.NumberScan.{Begins, Found, Unfinished}
-use Rattle.text.specs.StringGrammar.{Utf8Char, Char, unescaped, escape, Run, none, more, Reads}
-use Rattle.text.specs.StringDecode.{Scanned, Nothing, Exactly}
+use Rattle.text.specs.NumberScan.{Found, Unfinished}
+use Rattle.text.specs.StringGrammar.{Char, unescaped, none, more, Reads}
+use Rattle.text.specs.StringDecode.{Scanned, Nothing}
 use Rattle.text.specs.TokenGrammar.{NotAhead, Numeral, NumberFirst, NumberGoesOn, Mark, spread, Lexical, a_mark, a_name, a_number, a_string, the_end, NameStart, NameContinue, NameRest, name_ends, name_goes, Punctuator, p_bang, p_dollar, p_ampersand, p_open_paren, p_close_paren, p_colon, p_equals, p_at_sign, p_open_bracket, p_close_bracket, p_open_brace, p_pipe, p_close_brace, GraphqlToken, graphql_end, graphql_mark, graphql_spread, graphql_name, graphql_number, graphql_empty, graphql_string}
 use Rattle.text.specs.TokenFound.{NameEnd, View, v_mark, v_name, v_number, v_text, v_end, Holds, TokenAt, NoToken, LongAt}
 use Rattle.text.proofs.ScanRuns.{part_more}
 use Rattle.text.proofs.LexBase.{there, gone, first, cut, length_part, not_ahead}
-use Rattle.text.proofs.LexNumber.{begins_number_lem, nil_number, Spelled, number_found, found_numeral, one_found, found_long, found_unfinished, long_unfinished, long_first, long_inside, found_first, stops_number}
+use Rattle.text.proofs.LexNumber.{begins_number_lem, nil_number, number_found, found_numeral, one_found, found_long, found_unfinished, long_unfinished, long_first, long_inside, found_first, stops_number}
 use Rattle.text.proofs.LexIgnored.{low_char}
 use Rattle.text.specs.Cuts.{part}
 

@@ -1,15 +1,13 @@
 -- What GraphQL ignores.
-use Rattle.std.proofs.Common.{◌≡◌, ℕ, ◌+◌, ◌-◌, ◌<◌, ◌≤◌, ◌≢◌, ◌⊎◌, List, [], ◌∷◌, ◌++◌, length, get_or, drop, Some, None, Option, sym, refl, ap, ◌∙◌, subst, inl, inr, ⊎_elim, arith, length-append}
-use lib.Utf8.{scalar, encode}
-use Rattle.std.proofs.lemmas.Bool.{cases_lt}
+use Rattle.std.proofs.Common.{◌≡◌, ℕ, ◌+◌, ◌<◌, ◌≤◌, ◌≢◌, List, [], ◌∷◌, ◌++◌, length, get_or, drop, Some, None, Option, sym, refl, ap, ◌∙◌, subst, ⊎_elim, arith, length-append}
+use lib.Utf8.{encode}
 use Rattle.std.proofs.lemmas.Str.{char_from_byte, length-encode, len_utf8_bounds}
-use Rattle.std.specs.Int.{IsInRange}
 use Rattle.text.specs.StringGrammar.{Utf8Char, utf8, LineTerminator}
 use Rattle.text.specs.StringDecode.{Exactly, Nothing}
 use Rattle.text.specs.TokenGrammar.{CommentCode, CommentChar, comment_char_rule, CommentRest, comment_ends, comment_breaks, comment_goes, Comment, number_sign, IgnoredByte, ByteOrderMark, GraphqlIgnored, unicode_bom, ignored_byte_rule, ignored_comment}
 use Rattle.text.specs.TokenFound.{StepAt, StepTold}
 use Rattle.text.proofs.StrUtf8.{utf8_same}
-use Rattle.text.proofs.LexBase.{there, gone, first}
+use Rattle.text.proofs.LexBase.{there, gone}
 
 mark_bytes : encode 65279 ≡ 239 ∷ 187 ∷ 191 ∷ []
 unfolding encode

@@ -9,8 +9,8 @@ use Rattle.text.specs.StringGrammar.{Reads}
 use Rattle.text.specs.StringDecode.{Scanned, Nothing}
 use Rattle.text.specs.TokenGrammar.{NotAhead, Numeral, NumberFirst, Mark, Lexical, a_mark, a_name, a_number, a_string, the_end, WhiteSpace, JsonIgnored, white_space_rule, Structural, begin_array, begin_object, end_array, end_object, name_separator, value-separator, LiteralName, false_name, null_name, true_name, JsonToken, json_end, json_mark, json_literal, json_number, json_string}
 use Rattle.text.specs.TokenFound.{View, v_mark, v_name, v_number, v_text, v_end, Holds, StepAt, TokenAt, NoToken, LongAt}
-use Rattle.text.proofs.LexBase.{there, gone, first, cut, same_place}
-use Rattle.text.proofs.LexNumber.{begins_number_lem, nil_number, Spelled, number_found, found_numeral, found_stops, one_found, found_long, found_unfinished, long_unfinished, long_first, long_inside, found_first}
+use Rattle.text.proofs.LexBase.{there, gone, cut}
+use Rattle.text.proofs.LexNumber.{begins_number_lem, nil_number, number_found, found_numeral, found_stops, one_found, found_long, found_unfinished, long_unfinished, long_first, long_inside, found_first}
 use Rattle.text.specs.Cuts.{part}
 
 -- white space

@@ -1,18 +1,15 @@
 -- The contract of the functions that find a token has one answer.
-use Rattle.std.proofs.Common.{◌≡◌, ℕ, ◌+◌, ◌-◌, ◌<◌, ◌≤◌, Bool, true, false, ◌⊎◌, List, length, drop, Ok, Err, Result, sym, refl, ap, ◌∙◌, subst, inl, inr, arith}
-use Rattle.text.specs.declared.fault.Fault.{Fault}
+use Rattle.std.proofs.Common.{◌≡◌, ℕ, Bool, true, false, List, drop, Ok, Err, sym, refl, ap, ◌∙◌, subst, arith}
 use Rattle.text.specs.declared.fault.Fault.TheVariants.{BadText, TooDeep, NoSpace, RepeatedName, LongNumber, NoMemory}
 use Rattle.text.specs.declared.language.Language.{Language}
 use Rattle.text.specs.declared.language.Language.TheVariants.{Json, Graphql}
-use Rattle.text.specs.declared.number.NumberKind.{NumberKind}
 use Rattle.text.specs.declared.token.Lexeme.{Lexeme}
 use Rattle.text.specs.StringDecode.{Scanned}
-use Rattle.text.specs.TokenGrammar.{Lexical, a_mark, a_name, a_number, a_string, the_end, TokenOf}
-use Rattle.text.specs.TokenFound.{View, v_mark, v_name, v_number, v_text, v_end, view_of, Writes, Holds, Skipped, TokenAt, LongAt, NoToken, found, refused, outcome_of, TokenTold, OneToken}
+use Rattle.text.specs.TokenGrammar.{Lexical, a_mark, a_number, TokenOf}
+use Rattle.text.specs.TokenFound.{View, v_mark, v_name, v_number, v_text, v_end, view_of, Holds, Skipped, TokenAt, LongAt, NoToken, found, refused, outcome_of, TokenTold, OneToken}
 use Rattle.text.proofs.LexBase.{same_place}
 use Rattle.text.proofs.LexJson.{json_long}
 use Rattle.text.proofs.LexGraphql.{graphql_long}
-use Rattle.text.specs.Cuts.{part}
 
 -- what is ignored leads to one place
 one_start : {language : Language} {text : List ℕ} {at i j : ℕ} → Skipped language text at i → Skipped language text at j → i ≡ j

@@ -1,5 +1,5 @@
 -- Numbers at the front of a list and in a text.
-use Rattle.std.proofs.Common.{◌≡◌, ℕ, ◌+◌, ◌-◌, ◌<◌, ◌≤◌, ◌≢◌, ◌⊎◌, List, [], ◌∷◌, ◌++◌, length, get_or, take, drop, Some, None, Ok, Err, sym, refl, ap, ◌∙◌, subst, inl, inr, ⊎_elim, append_assoc, append-nil, arith, length-append, length-drop}
+use Rattle.std.proofs.Common.{◌≡◌, ℕ, ◌+◌, ◌-◌, ◌<◌, ◌≤◌, ◌≢◌, ◌⊎◌, List, [], ◌∷◌, ◌++◌, length, get_or, take, drop, None, Ok, Err, sym, refl, ap, ◌∙◌, subst, inl, inr, ⊎_elim, append-nil, arith, length-append, length-drop}
 use lib.Seq.{take-append_seam, drop-append_seam}
 use Rattle.std.proofs.lemmas.Bool.{cases_lt}
 use Rattle.std.proofs.lemmas.List.{drop-drop}
@@ -11,7 +11,7 @@ use Rattle.text.specs.declared.number.NumberKind.{NumberKind}
 use Rattle.text.specs.declared.number.State.{State}
 use Rattle.text.specs.NumberGrammar.{IsDigit, Optional, without, with, IsMinus, minus, IsInt, zero_int, int, Number}
 use Rattle.text.specs.NumberMoves.{next}
-use Rattle.text.specs.NumberScan.{Begins, Longest, Found, Unfinished, Endless, FarScaled, ScanRefused, Scanned}
+use Rattle.text.specs.NumberScan.{Begins, Found, Unfinished, ScanRefused}
 use Rattle.text.specs.TokenGrammar.{NotAhead, Numeral, NumberFirst, NumberGoesOn}
 use Rattle.text.specs.TokenFound.{LongAt, NoToken, RefusedHere}
 use Rattle.text.proofs.ScanRuns.{complete, refused, Ends, zero_ends, int_ends, frac_ends, exp_ends, part_more}

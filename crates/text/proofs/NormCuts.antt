@@ -1,8 +1,7 @@
 -- Where the runs of digits of a number end.
-use Rattle.std.proofs.Common.{◌≡◌, ℕ, zero, suc, ◌+◌, ◌-◌, ◌<◌, ◌≤◌, Bool, true, false, ◌≢◌, List, [], ◌∷◌, ◌++◌, length, get_or, take, drop, ℤ, sym, refl, ap, ◌∙◌, subst, ⊎_elim, arith, length-append, length-drop}
+use Rattle.std.proofs.Common.{◌≡◌, ℕ, zero, suc, ◌+◌, ◌-◌, ◌<◌, Bool, true, false, ◌≢◌, List, [], ◌∷◌, ◌++◌, length, get_or, take, drop, ℤ, sym, refl, ap, ◌∙◌, subst, ⊎_elim, arith, length-append, length-drop}
 use Rattle.std.proofs.lemmas.Bool.{cases_lt}
 use Rattle.std.proofs.lemmas.List.{get_or_past, get_or-drop, get_or_append_left, get_or-append-add, take_at, drop_at, drop-drop, get_or-take, length-take-le}
-use Rattle.text.specs.declared.decimal.Parts.{Parts}
 use Rattle.text.specs.NumberGrammar.{IsDigit, Digits, none, digit, IsInt, zero_int, int, IsMark, small_e, great_e}
 use Rattle.text.specs.NumberWorth.{Power, no_power, plain, more, less, Fraction, no_fraction, fraction, Minus, no_minus, one_minus}
 use Rattle.text.specs.NormalForm.{Each, DigitsTo, Split, Signs}

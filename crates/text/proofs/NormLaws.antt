@@ -1,16 +1,14 @@
 -- Laws of what numbers write, and of their normal forms.
-use Rattle.std.proofs.Common.{◌≡◌, ℕ, zero, suc, ◌+◌, ◌-◌, ◌*◌, ◌^◌, ◌<◌, ◌≤◌, Bool, true, false, cond, eqb, ◌≢◌, ◌⊎◌, List, [], ◌∷◌, ◌++◌, length, get_or, take, drop, replicate, ℤ, pos, ◌-ℤ◌, neg_ℤ, sym, refl, ap, ◌∙◌, subst, inl, inr, ⊎_elim, append-nil, mul_assoc, mul-pos, zero-mul, mul-one, mul_right_comm, arith, length-append, length-drop, pow-add}
+use Rattle.std.proofs.Common.{◌≡◌, ℕ, zero, suc, ◌+◌, ◌-◌, ◌*◌, ◌^◌, ◌<◌, ◌≤◌, Bool, true, false, cond, eqb, ◌≢◌, List, [], ◌∷◌, ◌++◌, length, get_or, take, drop, replicate, ℤ, pos, ◌-ℤ◌, neg_ℤ, sym, refl, ap, ◌∙◌, subst, inl, inr, ⊎_elim, append-nil, mul_assoc, mul-pos, zero-mul, mul-one, mul_right_comm, arith, length-append, length-drop, pow-add}
 use native.Mathlib.Nat.{eq_of_mul-eq-mul_right, pow-succ'}
 use Rattle.std.proofs.lemmas.Bool.{cases_lt}
 use Rattle.std.proofs.lemmas.List.{take-append-drop, take_more, take_all, get_or-take, get_or-drop, length-take-le, get_or_append_left, length-replicate}
 use Rattle.std.proofs.lemmas.Int.{ints}
-use Rattle.std.proofs.lemmas.Bool.Decides.{nat_tests}
-use Rattle.text.specs.declared.number.NumberKind.{NumberKind}
-use Rattle.text.specs.declared.number.NumberKind.TheVariants.{Whole, Decimal}
+use Rattle.text.specs.declared.number.NumberKind.TheVariants.{Whole}
 use Rattle.text.specs.declared.decimal.Scale.{Scale}
 use Rattle.text.specs.NumberGrammar.{IsDigit, Digits, none, digit, IsInt, zero_int, int, IsMark, Optional, without, with, IsMinus, minus, IsSign, sign_minus, sign_plus, IsFrac, frac, IsExp, exp, Number, kind_of}
-use Rattle.text.specs.NumberWorth.{after, value, Power, no_power, plain, more, less, Fraction, no_fraction, fraction, Minus, no_minus, one_minus, Writes, Equal, SameWorth, below, Written, IsNumber, NumbersWrite, WritersAreNumbers, WritesOnce, WorthIsEquivalence}
-use Rattle.text.specs.NormalForm.{Each, Form, form_zero, form, Normal, FormsAreUnique, EqualNumbersEqualForms, EqualFormsEqualNumbers, WholesAreUnique, WholeForm, whole_zero, whole_above, whole_below, WholeOf, WholeNormal, OfWhole, Signs, start_of, Trimmed}
+use Rattle.text.specs.NumberWorth.{after, value, Power, no_power, plain, more, less, Fraction, no_fraction, fraction, Minus, no_minus, one_minus, Writes, Equal, SameWorth, below, NumbersWrite, WritersAreNumbers, WritesOnce, WorthIsEquivalence}
+use Rattle.text.specs.NormalForm.{Each, Form, form_zero, form, Normal, FormsAreUnique, EqualNumbersEqualForms, EqualFormsEqualNumbers, WholesAreUnique, WholeForm, whole_zero, whole_above, whole_below, WholeOf, WholeNormal, Signs, start_of, Trimmed}
 use Rattle.text.proofs.NormValues.{after-append, after-ge, value-zeros, each_of, each_left, by_minus, by_plus, by_other, by_nothing, positive, length-zero, rest_is, part_end}
 use Rattle.text.proofs.NormCuts.{Stops, stops_power, stops_both, int_digits, head, tail, power_point, unsigned_true, unsigned_false, int_first}
 use Rattle.text.proofs.NormSettle.{below_some, ten_pos, zero_same, length_part}

@@ -1,12 +1,12 @@
 -- From the parts of a number to its normal form.
-use Rattle.std.proofs.Common.{◌≡◌, ℕ, zero, suc, ◌+◌, ◌-◌, ◌*◌, ◌^◌, ◌<◌, ◌≤◌, Bool, true, false, cond, eqb, ◌≢◌, List, [], ◌∷◌, ◌++◌, length, get_or, take, drop, replicate, ℤ, pos, negsuc, ◌+ℤ◌, ◌-ℤ◌, nat_abs, sym, refl, ap, ◌∙◌, subst, inl, inr, append-nil, mul-pos, zero-mul, mul-one, arith, length-drop}
+use Rattle.std.proofs.Common.{◌≡◌, ℕ, zero, suc, ◌-◌, ◌*◌, ◌^◌, ◌<◌, ◌≤◌, Bool, true, false, cond, eqb, ◌≢◌, List, [], ◌∷◌, ◌++◌, length, get_or, take, drop, replicate, ℤ, pos, negsuc, ◌+ℤ◌, ◌-ℤ◌, sym, refl, ap, ◌∙◌, subst, inl, inr, append-nil, mul-pos, zero-mul, mul-one, arith, length-drop}
 use native.Mathlib.Nat.{pow-succ'}
 use Rattle.std.proofs.lemmas.List.{length-take-le, take-take, take_all, take-append-drop}
 use Rattle.std.proofs.lemmas.Int.{ints}
 use Rattle.std.proofs.lemmas.Bool.Decides.{nat_tests}
 use Rattle.text.specs.declared.decimal.Parts.{Parts}
-use Rattle.text.specs.NumberWorth.{after, value, Power, Writes, Equal, SameWorth, below}
-use Rattle.text.specs.NormalForm.{Each, Signs, Split, start_of, Held, Grown, Trimmed, Form, form_zero, form, Normal, Within, Added}
+use Rattle.text.specs.NumberWorth.{after, value, Writes, Equal, SameWorth, below}
+use Rattle.text.specs.NormalForm.{Each, Signs, Split, start_of, Held, Grown, Trimmed, form_zero, form, Within, Added}
 use Rattle.text.proofs.NormValues.{after_is, Left, left, positive, held_none, drop_past, trim_all, trim_last, length-zero}
 use Rattle.text.proofs.NormCuts.{unsigned_true, unsigned_false, int_first}
 use Rattle.text.specs.Cuts.{part}

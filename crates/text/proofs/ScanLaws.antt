@@ -1,5 +1,5 @@
 -- The contract of a scan has one answer.
-use Rattle.std.proofs.Common.{◌≡◌, ℕ, ◌+◌, ◌-◌, ◌<◌, ◌≤◌, ◌⊎◌, List, ◌++◌, length, take, drop, Ok, Err, Result, sym, refl, ap, ◌∙◌, subst, inl, inr, ⊎_elim, append_assoc, arith}
+use Rattle.std.proofs.Common.{◌≡◌, ℕ, ◌+◌, ◌-◌, ◌<◌, ◌≤◌, ◌⊎◌, List, ◌++◌, length, take, drop, Ok, Err, sym, refl, ap, ◌∙◌, subst, inl, inr, ⊎_elim, append_assoc, arith}
 use Rattle.std.proofs.lemmas.Bool.{cases_lt}
 use Rattle.std.proofs.lemmas.List.{take-take, take-append-drop}
 use Rattle.text.specs.declared.fault.Fault.{Fault}
@@ -8,7 +8,7 @@ use Rattle.text.specs.declared.number.NumberKind.{NumberKind}
 use Rattle.text.specs.declared.number.State.{State}
 use Rattle.text.specs.NumberMoves.{capped}
 use Rattle.text.specs.NumberGrammar.{Number}
-use Rattle.text.specs.NumberScan.{exponent_of, Begins, Longest, Found, Unfinished, Endless, FarScaled, ScanRefused, Scanned, OneScan}
+use Rattle.text.specs.NumberScan.{exponent_of, Begins, Longest, Found, Unfinished, Endless, FarScaled, ScanRefused, OneScan}
 use Rattle.text.proofs.ScanRuns.{complete, same_place, Ends, zero_ends, int_ends, frac_ends, exp_ends}
 use Rattle.text.specs.Cuts.{part}
 

@@ -1,12 +1,19 @@
 // Whether a default fits its type.
+use reader::literal::Literal;
 use schema::scalars;
 use schema::types::{Base, Type};
 use source::raw::{Kind, Source, Span};
+use source::tree::Tree;
 use text::decimal;
 
-// Whether the literal at the cursor, which holds no variable, fits the type.
-#[cycle(all_fit_fits)]
-pub fn fits<S: Source>(source: &S, at: usize, ty: &Type<'_>) -> bool {
+// Whether the literal at the cursor of the tree, which holds no variable, fits the type.
+pub fn fits(tree: &Tree<'_>, at: usize, ty: &Type<'_>) -> bool {
+    source_fits(&Literal::new(tree, at), at, ty)
+}
+
+// The same of a value of any source.
+#[cycle(all_fit_source_fits)]
+pub fn source_fits<S: Source>(source: &S, at: usize, ty: &Type<'_>) -> bool {
     let kind = source.kind(at);
     if kind == Kind::Null {
         return !ty.is_non_null();
@@ -19,14 +26,14 @@ pub fn fits<S: Source>(source: &S, at: usize, ty: &Type<'_>) -> bool {
         return all_fit(source, source.inside(at), &item);
     }
     // Any other value counts as a list of one.
-    fits(source, at, &item)
+    source_fits(source, at, &item)
 }
 
-#[cycle(all_fit_fits)]
+#[cycle(all_fit_source_fits)]
 fn all_fit<S: Source>(source: &S, items: Span, item: &Type<'_>) -> bool {
     let mut span = items;
     while let Some((at, rest)) = source.next(span) {
-        if !fits(source, at, item) {
+        if !source_fits(source, at, item) {
             return false;
         }
         span = rest;

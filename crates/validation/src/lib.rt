@@ -91,7 +91,7 @@ fn bad_default(operation: &Operation<'_>) -> Option<usize> {
     for variable in operation.variables.iter() {
         if let Some(at) = variable.default {
             let ty = variable.ty;
-            if tree.holds_variable(at) || !defaults::fits(&operation.literal(at), at, &ty) {
+            if tree.holds_variable(at) || !defaults::fits(tree, at, &ty) {
                 return Some(tree.place(at));
             }
         }

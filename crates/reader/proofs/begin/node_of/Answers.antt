@@ -1,13 +1,11 @@
-use Rattle.std.proofs.Common.{◌≡◌, ℕ, ◌+◌, ◌-◌, List, [], drop, Err, vec_items, sym, refl, ap, ◌∙◌, subst, arith}
+use Rattle.std.proofs.Common.{[], drop, refl, ap, subst}
 use lib.Utf8.{encodes}
 use Rattle.std.proofs.lemmas.Result.{err_from_is_err_and}
 use Rattle.model.specs.Values.{list, object, variable, scalar, string, nil, end}
 use Rattle.source.specs.declared.nodes.Node.{Node}
 use Rattle.source.specs.declared.raw.Kind.TheVariants.{List as ListKind, Object, Variable, String}
 use Rattle.text.specs.declared.token.Token.TheVariants.{Dollar, OpenBracket, OpenBrace, Name, Whole, Decimal, Text}
-use Rattle.text.specs.declared.number.NumberKind.TheVariants.{Whole as WholeNumber, Decimal as DecimalNumber}
-use Rattle.text.specs.TokenGrammar.{Lexical, a_mark, open_bracket, open_brace, dollar, a_name, a_number, a_string, TokenOf}
-use Rattle.reader.specs.Told.{Lexed, StartTold, PartTold}
+use Rattle.text.specs.TokenGrammar.{Lexical, TokenOf}
 use Rattle.reader.specs.Grammar.{l_string}
 use Rattle.reader.specs.Reading.{starts_leaf, starts_list, starts_object, starts_variable}
 use Rattle.reader.proofs.RdSights.{token_numeral}

@@ -1,12 +1,11 @@
-use Rattle.std.proofs.Common.{◌≡◌, ℕ, ◌+◌, ◌-◌, List, [], length, Err, vec_items, sym, refl, ap, ◌∙◌, subst, append-nil, arith}
+use Rattle.std.proofs.Common.{◌≡◌, ℕ, List, length, Err, vec_items, sym, refl, ap, ◌∙◌, subst}
 use lib.Utf8.{encodes}
-use Rattle.std.proofs.lemmas.Result.{err_from_is_err_and}
 use Rattle.text.specs.declared.fault.Fault.{Fault}
 use Rattle.text.specs.declared.fault.Fault.TheVariants.{BadText, TooDeep, NoSpace, RepeatedName, LongNumber, NoMemory}
 use Rattle.text.specs.declared.language.Language.{Language}
 use Rattle.text.specs.StringGrammar.{Chars}
 use Rattle.text.specs.StringDecode.{DecodeTold}
-use Rattle.reader.proofs.Leaves.{text_part, pool_part}
+use Rattle.reader.proofs.Leaves.{pool_part}
 use Rattle.reader.proofs.begin.string_part.Goals as goal
 
 only_memory : (language : Language) (raw before after cs : List ℕ) (f : Fault) → Chars language raw cs → DecodeTold language raw before after (Err f) → f ≡ NoMemory

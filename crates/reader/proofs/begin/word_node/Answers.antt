@@ -1,4 +1,4 @@
-use Rattle.std.proofs.Common.{◌≡◌, ℕ, Bool, true, false, ◌≢◌, List, [], sym, refl, ap, ◌∙◌, true≢false, append-nil}
+use Rattle.std.proofs.Common.{true, false, [], sym, refl, ap, ◌∙◌, true≢false, append-nil}
 use Rattle.std.proofs.lemmas.Slice.Eq.{slice_eq-Decides}
 use Rattle.source.specs.declared.nodes.Node.{Node}
 use Rattle.source.specs.declared.raw.Kind.TheVariants.{Null, Boolean, Enum}

@@ -1,11 +1,10 @@
-use Rattle.std.proofs.Common.{◌≡◌, ◌≤◌, List, length, vec_items, sym, refl, ap, ◌∙◌, subst, arith}
+use Rattle.std.proofs.Common.{length, refl, ap, subst}
 use Rattle.std.proofs.lemmas.Result.{err_from_is_err_and}
-use Rattle.source.specs.declared.nodes.Node.{Node}
 use Rattle.source.specs.Table.{Stands, table_of}
 use Rattle.text.specs.declared.token.Token.TheVariants.{End}
 use Rattle.text.specs.TokenGrammar.{Lexical}
 use Rattle.reader.specs.Tokens.{Sights, sees, blind}
-use Rattle.reader.specs.Reading.{fails, Reads, ReadsAll, all_fails, all_read, after_all}
+use Rattle.reader.specs.Reading.{fails, Reads, all_fails, all_read, after_all}
 use Rattle.reader.specs.Document.{FaultWhole, whole_long, whole_read}
 use Rattle.reader.proofs.Growing.{blames_all, blames_map}
 use Rattle.reader.proofs.Beginning.{holds_as}

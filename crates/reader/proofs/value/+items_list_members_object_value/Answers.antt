@@ -1,17 +1,14 @@
-use Rattle.std.proofs.Common.{◌≡◌, ℕ, ◌+◌, ◌-◌, ◌<◌, ◌≤◌, true, false, List, [], ◌∷◌, ◌++◌, length, take, Ok, vec_items, sym, refl, ap, ◌∙◌, subst, arith}
+use Rattle.std.proofs.Common.{◌≡◌, ◌-◌, ◌≤◌, true, false, [], ◌∷◌, ◌++◌, length, take, Ok, vec_items, sym, refl, ap, ◌∙◌, subst, arith}
 use Rattle.std.proofs.lemmas.Result.{err_from_is_err_and}
 use Rattle.model.specs.Values.{list, object, variable, nil, end, place_of}
 use Rattle.names.specs.declared.names.Names.{Names}
-use Rattle.source.specs.declared.nodes.Node.{Node}
-use Rattle.source.specs.declared.nodes.Nodes.{Nodes}
 use Rattle.source.specs.Nodes.{closed}
 use Rattle.source.specs.Table.{Table, Says, table_of}
 use Rattle.text.specs.TokenGrammar.{Lexical, a_mark, open_bracket, close_bracket, open_brace, close_brace, dollar}
 use Rattle.reader.specs.Tokens.{Sights, sees, blind, Seen}
-use Rattle.reader.specs.Closings.{mark_of}
-use Rattle.reader.specs.Reading.{fails, is_mark, Reads, r_deep, r_leaf, r_list, r_object, ReadsList, rl_nil, rl_items, ReadsItems, ri_fails, ri_halts, ReadsObject, ro_end, ro_members, ReadsMembers, rm_unnamed, rm_fails, rm_halts, r_blind, NameAt, na_blind}
+use Rattle.reader.specs.Reading.{fails, Reads, r_deep, r_leaf, r_list, r_object, ReadsList, rl_items, ri_fails, ri_halts, ReadsObject, ro_members, rm_unnamed, rm_fails, rm_halts, r_blind, NameAt, na_blind}
 use Rattle.reader.specs.declared.manner.Step.{Step}
-use Rattle.reader.specs.Told.{Told, ItemsAdded, StepIs, NamesHeld, bare}
+use Rattle.reader.specs.Told.{StepIs, NamesHeld, bare}
 use Rattle.reader.proofs.Growing.{blames_all, blames_map, items_step, items_done, items_none, list_closed, relinked, members_start, member_read, members_step, members_done, members_none, object_closed, told_pooled, leaf_added, leaf_stands}
 use Rattle.reader.proofs.Naming.{held_none, held_pool}
 use Rattle.reader.proofs.RdSound.{mark_is}

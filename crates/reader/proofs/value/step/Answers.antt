@@ -1,7 +1,6 @@
 use Rattle.std.proofs.Common.{◌≡◌, true, false, sym, subst, arith}
 use Rattle.std.proofs.lemmas.Result.{err_from_is_err_and}
 use Rattle.text.specs.declared.language.Language.{Language}
-use Rattle.text.specs.declared.language.Language.TheVariants.{Json, Graphql}
 use Rattle.text.specs.TokenGrammar.{comma}
 use Rattle.reader.specs.Tokens.{sees, blind}
 use Rattle.reader.specs.Reading.{turn, again, halts}

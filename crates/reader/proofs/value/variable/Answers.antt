@@ -1,4 +1,4 @@
-use Rattle.std.proofs.Common.{◌≡◌, List, [], ◌∷◌, ◌++◌, length, vec_items, sym, refl, ap, ◌∙◌, subst, arith}
+use Rattle.std.proofs.Common.{vec_items, sym, refl, ap, ◌∙◌, arith}
 use Rattle.std.proofs.lemmas.Result.{err_from_is_err_and}
 use Rattle.model.specs.Values.{variable}
 use Rattle.names.specs.declared.names.Names.{Names}
@@ -11,7 +11,7 @@ use Rattle.reader.specs.Reading.{as_variable, fails, Reads, r_variable}
 use Rattle.reader.proofs.Beginning.{holds_as}
 use Rattle.reader.proofs.Growing.{blames_all, leaf_added}
 use Rattle.reader.proofs.Leaves.{text_part}
-use Rattle.reader.proofs.Tables.{Pushed, pushed_keeps, pushed_long, pushed_node, leaf_head}
+use Rattle.reader.proofs.Tables.{Pushed, pushed_node, leaf_head}
 use Rattle.reader.proofs.TokenKinds.{no_variable}
 use Rattle.reader.proofs.value.variable.Goals as goal
 

@@ -1,4 +1,4 @@
-use Rattle.std.proofs.Common.{◌≡◌, ◌<◌, ◌≤◌, length}
+use Rattle.std.proofs.Common.{◌<◌, ◌≤◌, length}
 use Rattle.schema.proofs.types.read_type.Given as goal
 
 abbrev pub invariant-loop-level : goal.invariant-loop-level

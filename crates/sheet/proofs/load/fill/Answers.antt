@@ -1,4 +1,4 @@
-use Rattle.std.proofs.Common.{◌≡◌, ◌-◌, ◌≤◌, length, refl, ◌∙◌, arith, rules}
+use Rattle.std.proofs.Common.{◌≤◌, length, refl, arith, rules}
 use Rattle.sheet.proofs.Filled.{replaced, front_long}
 use Rattle.sheet.proofs.load.fill.Goals as goal
 

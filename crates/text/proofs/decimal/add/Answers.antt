@@ -1,4 +1,4 @@
-use Rattle.std.proofs.Common.{◌≡◌, ◌<◌, ◌≤◌, length, vec_items, vec_capacity, sym, refl, ap, ◌∙◌, arith}
+use Rattle.std.proofs.Common.{◌<◌, ◌≤◌, length, vec_items, vec_capacity, ap, ◌∙◌, arith}
 use Rattle.std.proofs.lemmas.List.{take_all}
 use Rattle.text.proofs.NormValues.{pushed, skipped, filled_all, something_past, nothing_past}
 use Rattle.text.proofs.decimal.add.Goals.{then-b-ne48, then-b-ne48-via-then-b-ne48, then-b-ne48-via-else-b-ne48+then-len-base, else-b-ne48+else-len-base}

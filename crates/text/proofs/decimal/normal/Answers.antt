@@ -1,7 +1,7 @@
-use Rattle.std.proofs.Common.{◌≡◌, ℕ, ◌-◌, ◌<◌, Bool, List, [], ◌∷◌, ◌++◌, length, drop, ℤ, pos, nat_abs, vec_items, sym, refl, ap, ◌∙◌, subst, arith, w32, SFits, to_z, of_z, rules}
-use Rattle.std.proofs.lemmas.Int.{ints, to_z-of_z}
+use Rattle.std.proofs.Common.{◌≡◌, ℕ, ◌-◌, ◌<◌, Bool, List, length, drop, ℤ, nat_abs, vec_items, sym, refl, ap, ◌∙◌, subst, arith, w32, SFits, to_z, of_z, rules}
+use Rattle.std.proofs.lemmas.Int.{to_z-of_z}
 use Rattle.std.proofs.lemmas.Result.{err_from_is_err_and}
-use Rattle.text.specs.NumberWorth.{after, value, Power, Writes}
+use Rattle.text.specs.NumberWorth.{after, Power, Writes}
 use Rattle.text.specs.NormalForm.{Within, great, Grown, Trimmed}
 use Rattle.text.proofs.NormSettle.{Aligned, aligned, amount_is, worth_is, length_part, Settled, settled, unadded, added_zero, added_some}
 use Rattle.text.proofs.decimal.normal.Goals.{After-locate-start, In-Some, After-truncate}

@@ -1,4 +1,4 @@
-use Rattle.std.proofs.Common.{◌≡◌, ◌-◌, ◌<◌, length, pos, sym, refl, ◌∙◌, arith, w32, to_z}
+use Rattle.std.proofs.Common.{◌≡◌, ◌-◌, ◌<◌, length, pos, sym, refl, arith, w32, to_z}
 use Rattle.std.proofs.lemmas.Int.{ints}
 use Rattle.std.proofs.lemmas.List.{take_all}
 use Rattle.text.proofs.NormLaws.{of_whole_zero, of_whole_some}

@@ -1,4 +1,4 @@
-use Rattle.std.proofs.Common.{◌≡◌, ℕ, List, length, get_or, drop, ℤ, pos, ◌-ℤ◌, neg_ℤ, nat_abs, Some, None, Option, sym, refl, ap, ◌∙◌, subst, arith, w32, to_z, of_z, rules}
+use Rattle.std.proofs.Common.{◌≡◌, ℕ, List, length, get_or, drop, ℤ, pos, ◌-ℤ◌, neg_ℤ, nat_abs, Some, None, Option, sym, ap, ◌∙◌, subst, arith, w32, to_z, of_z}
 use Rattle.text.specs.NormalForm.{Each}
 use Rattle.text.specs.NormalForm.{signed, Sized}
 use Rattle.std.proofs.lemmas.Int.{ints}

@@ -1,4 +1,4 @@
-use Rattle.std.proofs.Common.{◌≡◌, ◌+◌, arith}
+use Rattle.std.proofs.Common.{◌+◌, arith}
 use Rattle.text.specs.declared.language.Language.TheVariants.{Json}
 use Rattle.text.proofs.LexSkip.{skip_start, skip_more, skip_done}
 use Rattle.text.proofs.LexJson.{space_step, space_stops}

@@ -1,6 +1,6 @@
-use Rattle.std.proofs.Common.{◌≡◌, sym, ◌∙◌, subst, inl, inr, arith}
+use Rattle.std.proofs.Common.{sym, ◌∙◌, subst, inl, inr, arith}
 use Rattle.text.specs.declared.number.Scanner.{Scanner}
-use Rattle.text.proofs.ScanRuns.{Reached, Rested, begin, onward, endless, found, far_scaled, unfinished}
+use Rattle.text.proofs.ScanRuns.{Rested, begin, onward, endless, found, far_scaled, unfinished}
 use Rattle.text.proofs.number.scan.Goals.{Left-loop-end, else-loop-end-test, then-loop-end-test+then-not-step}
 use Rattle.text.proofs.number.scan.Goals as goal
 

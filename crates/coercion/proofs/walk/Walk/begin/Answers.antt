@@ -1,5 +1,5 @@
-use Rattle.std.proofs.Common.{◌≡◌, ◌+◌, ◌≤◌, sym, subst, arith}
-use Rattle.coercion.specs.Frames.{piled, Rooted}
+use Rattle.std.proofs.Common.{◌+◌, ◌≤◌, sym, subst, arith}
+use Rattle.coercion.specs.Frames.{Rooted}
 use Rattle.coercion.proofs.Stacks.{made_any, rooted_more, rooted_push, pushed_length}
 use Rattle.coercion.proofs.walk.Walk.begin.Goals as goal
 

@@ -1,5 +1,5 @@
-use Rattle.std.proofs.Common.{◌≡◌, sym, ◌∙◌, subst, arith}
-use Rattle.coercion.specs.Frames.{piled, Rooted}
+use Rattle.std.proofs.Common.{sym, subst, arith}
+use Rattle.coercion.specs.Frames.{Rooted}
 use Rattle.coercion.proofs.Stacks.{rooted_more, rooted_push, rooted_pop, pushed_length, piled_short}
 use Rattle.coercion.proofs.walk.Walk.turn.Goals as goal
 

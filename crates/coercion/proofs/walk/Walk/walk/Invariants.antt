@@ -1,4 +1,4 @@
-use Rattle.std.proofs.Common.{◌≡◌, ◌+◌, ◌-◌, ◌≤◌, length}
+use Rattle.std.proofs.Common.{◌≡◌, ◌+◌, ◌-◌, length}
 use Rattle.record.specs.Held.{size, Kept}
 use Rattle.coercion.specs.Frames.{piled, Rooted}
 use Rattle.coercion.proofs.walk.Walk.walk.Given as goal

@@ -1,4 +1,4 @@
-use Rattle.std.proofs.Common.{◌≡◌, true, length, set, vec_items, sym, refl, ap, ◌∙◌, subst, arith}
+use Rattle.std.proofs.Common.{◌≡◌, true, length, set, vec_items, sym, refl, subst, arith}
 use Rattle.model.specs.Values.{Name, has}
 use Rattle.names.specs.declared.names.Link.{Link}
 use Rattle.names.specs.Parts.{bytes_of}

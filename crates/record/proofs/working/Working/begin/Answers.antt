@@ -1,4 +1,4 @@
-use Rattle.std.proofs.Common.{◌≡◌, min, ◌++◌, length, refl, ap, ◌∙◌, arith, length-append}
+use Rattle.std.proofs.Common.{◌≡◌, ◌++◌, length, refl, ap, ◌∙◌, arith}
 use Rattle.record.specs.Records.{named, header, opened, kind_of}
 use Rattle.record.specs.Held.{written}
 use Rattle.record.proofs.Bytes.{both, kept_on}

@@ -1,4 +1,4 @@
-use Rattle.std.proofs.Common.{◌≡◌, ℕ, ◌+◌, ◌-◌, length, take, sym, refl, ap, ◌∙◌, arith}
+use Rattle.std.proofs.Common.{◌+◌, ◌-◌, length, refl, ap, ◌∙◌, arith}
 use Rattle.record.proofs.Bytes.{length-put_mid, take-patched}
 use Rattle.record.proofs.working.Working.finish.Goals as goal
 

@@ -1,4 +1,4 @@
-use Rattle.std.proofs.Common.{◌≡◌, ◌++◌, length, sym, ap, ◌∙◌, arith, length-append, to_z-of_z, w32, SFits, to_z, of_z, rules}
+use Rattle.std.proofs.Common.{◌++◌, length, ap, ◌∙◌, arith, to_z-of_z, w32, SFits, rules}
 use Rattle.record.specs.Records.{opened, scale}
 use Rattle.record.specs.Held.{written}
 use Rattle.record.proofs.Bytes.{both, kept_on}

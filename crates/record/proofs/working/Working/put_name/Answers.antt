@@ -1,4 +1,4 @@
-use Rattle.std.proofs.Common.{◌≡◌, length, ap, ◌∙◌, arith, length-append}
+use Rattle.std.proofs.Common.{length, ap, ◌∙◌, arith}
 use Rattle.record.specs.Records.{named}
 use Rattle.record.proofs.Bytes.{both, kept_on}
 use Rattle.record.proofs.working.Working.put_name.Goals as goal

@@ -1,4 +1,4 @@
-use Rattle.std.proofs.Common.{◌≡◌, Some, None, sym, refl, ap, ◌∙◌, subst, true≢false}
+use Rattle.std.proofs.Common.{Some, None, sym, ◌∙◌, subst, true≢false}
 use Rattle.std.proofs.lemmas.Slice.Eq.{slice_eq-Decides}
 use Rattle.source.specs.Standing.{Found}
 use Rattle.source.specs.Table.{tree_table, Held}

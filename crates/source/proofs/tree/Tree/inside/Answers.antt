@@ -1,6 +1,5 @@
-use Rattle.std.proofs.Common.{◌≡◌, ◌+◌, sym, refl, ap, ◌∙◌, arith, rules}
+use Rattle.std.proofs.Common.{◌+◌, refl, ap, rules}
 use Rattle.source.specs.declared.nodes.Node.{Node}
-use Rattle.source.specs.Table.{tree_table}
 use Rattle.source.proofs.Standings.{held_items, held_members}
 use Rattle.source.proofs.tree.Tree.inside.Goals as goal
 

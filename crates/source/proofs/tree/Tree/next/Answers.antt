@@ -1,4 +1,4 @@
-use Rattle.std.proofs.Common.{◌≡◌, ◌-◌, ◌<◌, ◌≤◌, sym, refl, ap, ◌∙◌, ⊎_elim, arith, rules}
+use Rattle.std.proofs.Common.{◌-◌, ◌<◌, ◌≤◌, ap, arith, rules}
 use Rattle.source.specs.declared.nodes.Node.{Node}
 use Rattle.source.specs.Table.{tree_table}
 use Rattle.source.proofs.Standings.{none_items, none_members, some_items, some_members}

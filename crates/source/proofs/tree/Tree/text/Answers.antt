@@ -1,4 +1,4 @@
-use Rattle.std.proofs.Common.{◌≡◌, vec_items, sym, ap, ◌∙◌, subst}
+use Rattle.std.proofs.Common.{vec_items, sym, ap, ◌∙◌, subst}
 use Rattle.names.specs.declared.part.Part.{Part}
 use Rattle.names.specs.Parts.{PartFits, bytes_of}
 use Rattle.source.specs.declared.nodes.Node.{Node}
