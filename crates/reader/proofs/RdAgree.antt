@@ -139,15 +139,15 @@ module _ (N : ℕ → Sight → Type 0) (T : ℕ → ℕ → ℕ → Lexical →
       ∙ cond-false (is_mark close o.x) (done o.e) (again j) o.other ∙ ap again a
 
   module _ (language : Language) where
-    value-opens : {i j : ℕ} {t : Raw} → Value T language i j t → Opens T close_bracket i
-    value-opens (g_leaf {s = s} {e = e} {x = x} a l) = record { s = s; e = e; x = x; token = a; other = leaf_no_mark l close_bracket }
-    value-opens (g_variable {s = s} {e = e} a w) = record { s = s; e = e; x = a_mark dollar; token = a; other = refl }
-    value-opens (g_list {s = s} {e = e} a w) = record { s = s; e = e; x = a_mark open_bracket; token = a; other = refl }
-    value-opens (g_object {s = s} {e = e} a w) = record { s = s; e = e; x = a_mark open_brace; token = a; other = refl }
+    value_opens : {i j : ℕ} {t : Raw} → Value T language i j t → Opens T close_bracket i
+    value_opens (g_leaf {s = s} {e = e} {x = x} a l) = record { s = s; e = e; x = x; token = a; other = leaf_no_mark l close_bracket }
+    value_opens (g_variable {s = s} {e = e} a w) = record { s = s; e = e; x = a_mark dollar; token = a; other = refl }
+    value_opens (g_list {s = s} {e = e} a w) = record { s = s; e = e; x = a_mark open_bracket; token = a; other = refl }
+    value_opens (g_object {s = s} {e = e} a w) = record { s = s; e = e; x = a_mark open_brace; token = a; other = refl }
 
     items_open : {i j : ℕ} {xs : Raws} → SomeValues T language i j xs → Opens T close_bracket i
-    items_open (g_last v a) = value-opens v
-    items_open (g_more v a r) = value-opens v
+    items_open (g_last v a) = value_opens v
+    items_open (g_more v a r) = value_opens v
 
     member_opens : {i j : ℕ} {n : Name} {t : Raw} → Member T language i j n t → Opens T close_brace i
     member_opens (g_member {s = s} {e = e} {x = x} {n = n} a h c v) = record { s = s; e = e; x = x; token = a; other = name_no_mark language x n close_brace h }

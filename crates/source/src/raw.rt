@@ -38,6 +38,7 @@ pub struct Span {
 }
 
 // A finite tree of raw values, asked by cursors. Asking changes nothing.
+// A cursor that stands for nothing answers as null, and with nothing in it.
 // Each answer is that of the tree at the cursor, whichever tree stands there.
 pub trait Source {
     const FORM: Form;

@@ -7,7 +7,7 @@ use Rattle.text.specs.declared.number.NumberKind.{NumberKind}
 use Rattle.text.specs.NumberScan.{Begins, Found, Unfinished}
 use Rattle.text.specs.StringGrammar.{Reads}
 use Rattle.text.specs.StringDecode.{Scanned, Nothing}
-use Rattle.text.specs.TokenGrammar.{NotAhead, Numeral, NumberFirst, Mark, Lexical, a_mark, a_name, a_number, a_string, the_end, WhiteSpace, JsonIgnored, white_space_rule, Structural, begin_array, begin_object, end_array, end_object, name_separator, value-separator, LiteralName, false_name, null_name, true_name, JsonToken, json_end, json_mark, json_literal, json_number, json_string}
+use Rattle.text.specs.TokenGrammar.{NotAhead, Numeral, NumberFirst, Mark, Lexical, a_mark, a_name, a_number, a_string, the_end, WhiteSpace, JsonIgnored, white_space_rule, Structural, begin_array, begin_object, end_array, end_object, name_separator, value_separator, LiteralName, false_name, null_name, true_name, JsonToken, json_end, json_mark, json_literal, json_number, json_string}
 use Rattle.text.specs.TokenFound.{View, v_mark, v_name, v_number, v_text, v_end, Holds, StepAt, TokenAt, NoToken, LongAt}
 use Rattle.text.proofs.LexBase.{there, gone, cut}
 use Rattle.text.proofs.LexNumber.{begins_number_lem, nil_number, number_found, found_numeral, found_stops, one_found, found_long, found_unfinished, long_unfinished, long_first, long_inside, found_first}
@@ -44,7 +44,7 @@ is_structural begin_object = inr (inl refl)
 is_structural end_array = inr (inr (inl refl))
 is_structural end_object = inr (inr (inr (inl refl)))
 is_structural name_separator = inr (inr (inr (inr (inl refl))))
-is_structural value-separator = inr (inr (inr (inr (inr refl))))
+is_structural value_separator = inr (inr (inr (inr (inr refl))))
 
 one_structural : {b : ℕ} {m n : Mark} → Structural b m → Structural b n → m ≡ n
 one_structural begin_array begin_array = refl
@@ -52,7 +52,7 @@ one_structural begin_object begin_object = refl
 one_structural end_array end_array = refl
 one_structural end_object end_object = refl
 one_structural name_separator name_separator = refl
-one_structural value-separator value-separator = refl
+one_structural value_separator value_separator = refl
 
 pub not_structural : {b : ℕ} {m : Mark} → Structural b m → b ≢ 91 → b ≢ 123 → b ≢ 93 → b ≢ 125 → b ≢ 58 → b ≢ 44 → ⊥
 not_structural begin_array h _ _ _ _ _ = h refl
@@ -60,7 +60,7 @@ not_structural begin_object _ h _ _ _ _ = h refl
 not_structural end_array _ _ h _ _ _ = h refl
 not_structural end_object _ _ _ h _ _ = h refl
 not_structural name_separator _ _ _ _ h _ = h refl
-not_structural value-separator _ _ _ _ _ h = h refl
+not_structural value_separator _ _ _ _ _ h = h refl
 
 -- literal names
 abbrev IsLetter : ℕ → Type 0

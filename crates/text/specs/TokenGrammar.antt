@@ -69,7 +69,7 @@ pub data Structural : ℕ → Mark → Type 0 where
   end_array : Structural 93 close_bracket
   end_object : Structural 125 close_brace
   name_separator : Structural 58 colon
-  value-separator : Structural 44 comma
+  value_separator : Structural 44 comma
 
 -- false, null, true
 pub data LiteralName : List ℕ → Type 0 where

@@ -1,5 +1,5 @@
 use Rattle.std.proofs.Common.{ℕ, sym, refl, subst, arith}
-use Rattle.text.specs.TokenGrammar.{Structural, open_bracket, open_brace, close_bracket, close_brace, colon, comma, begin_array, begin_object, end_array, end_object, name_separator, value-separator}
+use Rattle.text.specs.TokenGrammar.{Structural, open_bracket, open_brace, close_bracket, close_brace, colon, comma, begin_array, begin_object, end_array, end_object, name_separator, value_separator}
 use Rattle.text.proofs.LexJson.{not_structural}
 use Rattle.text.proofs.json.structural.Goals as goal
 
@@ -19,7 +19,7 @@ pub returns-in-58 : goal.returns-in-58
 returns-in-58 c = (colon, subst (λ (k : ℕ). Structural k colon) (sym c.in-58.is) name_separator, refl)
 
 pub returns-in-44 : goal.returns-in-44
-returns-in-44 c = (comma, subst (λ (k : ℕ). Structural k comma) (sym c.in-44.is) value-separator, refl)
+returns-in-44 c = (comma, subst (λ (k : ℕ). Structural k comma) (sym c.in-44.is) value_separator, refl)
 
 pub returns-in_default : goal.returns-in_default
 returns-in_default c m s = not_structural s (omega arith) (omega arith) (omega arith) (omega arith) (omega arith) (omega arith)
