@@ -44,7 +44,8 @@ impl<R: Named> Lookup for Table<'_, R> {
 
     fn find(&self, name: &[u8]) -> Option<usize> {
         for (i, record) in self.records.iter().enumerate() {
-            if record.name() == name {
+            let same = record.name() == name;
+            if same {
                 return Some(i);
             }
         }

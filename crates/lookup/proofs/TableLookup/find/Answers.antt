@@ -5,17 +5,17 @@ use Rattle.lookup.proofs.Names.{name_at}
 use Rattle.lookup.proofs.TableLookup.find.Goals as goal
 use Rattle.std.proofs.lemmas.Bool.Decides.{Decides-eqb}
 
-pub returns-then-eq : goal.returns-then-eq
-returns-then-eq g c =
+pub returns-then-same : goal.returns-then-same
+returns-then-same g c =
     let here = name_at g.R.Named.called c.args.self.now.records.now c.loop-i.i c.record-item.result (omega arith) c.record-item.is in
-    let same = slice_eq-Decides Decides-eqb _ _ _ c.eq.ensures in
-    (omega (arith, length-map c.args.self.now.records.now g.R.Named.called), here ∙ sym c.name.ensures ∙ same.0 c.if-eq.true, c.loop-i.invariant)
+    let told = slice_eq-Decides Decides-eqb _ _ _ c.eq-same.ensures in
+    (omega (arith, length-map c.args.self.now.records.now g.R.Named.called), here ∙ sym c.name.ensures ∙ told.0 c.if-same.true, c.loop-i.invariant)
 
 pub loop-i-preserved : goal.loop-i-preserved
 loop-i-preserved g c =
     let here = name_at g.R.Named.called c.args.self.now.records.now c.loop-i.i c.record-item.result (omega arith) c.record-item.is in
-    let same = slice_eq-Decides Decides-eqb _ _ _ c.eq.ensures in
-    below_more _ _ c.loop-i.invariant (λ e. true≢false (sym (same.1 (c.name.ensures ∙ sym here ∙ e)) ∙ c.if-eq.false))
+    let told = slice_eq-Decides Decides-eqb _ _ _ c.eq-same.ensures in
+    below_more _ _ c.loop-i.invariant (λ e. true≢false (sym (told.1 (c.name.ensures ∙ sym here ∙ e)) ∙ c.if-same.false))
 
 pub returns : goal.returns
 returns g c k h = c.loop-i.invariant k (omega (arith, length-map c.args.self.now.records.now g.R.Named.called))
