@@ -53,7 +53,7 @@ abbrev mutual
   encode_mems r_end = []
   encode_mems (r_mem n r ms) = framed 8 n ++ (framed (kind r) (body r) ++ encode_mems ms)
 
--- the bytes of a record; a sheet's are `encodeMems` of its members
+-- the bytes of a record; a sheet's are `encode_mems` of its members
 abbrev pub encode : Rec → List ℕ
 encode r = framed (kind r) (body r)
 

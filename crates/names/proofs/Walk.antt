@@ -42,12 +42,12 @@ further {text} {pool} {links} w s e other k a b same =
 same_child : {links : List Link} {at c d : ℕ} {side : Bool} → Child links at side c → Child links at side d → c ≡ d
 same_child x y = sym x.is ∙ y.is
 
-pub walk-on : {text pool : List ℕ} {links : List Link} {base h : ℕ} {n : List ℕ} {at level : ℕ} (next : ℕ)
+pub walk_on : {text pool : List ℕ} {links : List Link} {base h : ℕ} {n : List ℕ} {at level : ℕ} (next : ℕ)
     → Walking text pool links base h n at level
     → (Sound text pool links base → h ≡ hash_of_lem n → name_at text pool links at ≡ n → ⊥)
     → Child links at (bit_of h n level) next
     → Walking text pool links base h n next (level + 1)
-walk-on {links = links} {h = h} {n = n} {level = level} next w other x =
+walk_on {links = links} {h = h} {n = n} {level = level} next w other x =
     record {
       from = omega (arith, w.from, x.after);
       within = x.within;

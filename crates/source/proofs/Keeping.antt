@@ -58,8 +58,8 @@ head_kept {k} {T} {U} a at t h s =
       inside = omega (arith, s.inside, p, a.grows);
     }
 
-size-kept : {k : ℕ} {T U : Table} → Keeps k T U → (at n : ℕ) → k ≤ at → at < length T.nodes → (node_at T.nodes at).size ≡ n → (node_at U.nodes at).size ≡ n
-size-kept a at n h l e = ap (λ (n : Node). n.size) (a.nodes at h l) ∙ e
+size_kept : {k : ℕ} {T U : Table} → Keeps k T U → (at n : ℕ) → k ≤ at → at < length T.nodes → (node_at T.nodes at).size ≡ n → (node_at U.nodes at).size ≡ n
+size_kept a at n h l e = ap (λ (n : Node). n.size) (a.nodes at h l) ∙ e
 
 pub named_kept : {k : ℕ} {T U : Table} → Keeps k T U → (at : ℕ) (n : List ℕ) → k ≤ at → at < length T.nodes → Named T at n → Named U at n
 named_kept {k} {T} {U} a at n h l s =
@@ -74,9 +74,9 @@ within_of s = omega (arith, s.some, s.inside)
 
 mutual
   pub stands_kept : {k : ℕ} {T U : Table} → Keeps k T U → (at : ℕ) (t : Raw) → k ≤ at → Stands T at t → Stands U at t
-  stands_kept a at (null p) h s = (head_kept a at (null p) h s.0, size-kept a at 1 h (within_of s.0) s.1)
-  stands_kept a at (scalar p x) h s = (head_kept a at (scalar p x) h s.0, size-kept a at 1 h (within_of s.0) s.1)
-  stands_kept a at (variable p x) h s = (head_kept a at (variable p x) h s.0, size-kept a at 1 h (within_of s.0) s.1)
+  stands_kept a at (null p) h s = (head_kept a at (null p) h s.0, size_kept a at 1 h (within_of s.0) s.1)
+  stands_kept a at (scalar p x) h s = (head_kept a at (scalar p x) h s.0, size_kept a at 1 h (within_of s.0) s.1)
+  stands_kept a at (variable p x) h s = (head_kept a at (variable p x) h s.0, size_kept a at 1 h (within_of s.0) s.1)
   stands_kept {U = U} a at (list p xs) h s = (
     head_kept a at (list p xs) h s.0,
     subst (λ j. StandsAll U (at + 1) j xs) (sym (past_kept a at h (within_of s.0))) (all_kept a (at + 1) _ xs (omega arith) s.1),

@@ -1,4 +1,4 @@
--- Spans of nodes.
+-- Spans of cursors.
 use Rattle.std.specs.Prelude.{◌≡◌, ℕ, ◌-◌, ◌<◌, ◌≤◌}
 use Rattle.source.specs.declared.raw.Span.{Span}
 use Rattle.source.specs.Standing.{width}

@@ -3,7 +3,7 @@ use Rattle.std.proofs.lemmas.Slice.Eq.{slice_eq-Decides}
 use Rattle.std.proofs.lemmas.Bool.{both_ways}
 use Rattle.names.specs.Bits.{hash_of_lem}
 use Rattle.names.specs.Index.{name_at, Sound}
-use Rattle.names.proofs.Walk.{walk_start, walk-on, walk_ends, name_read, hash_read, child_read, no_child}
+use Rattle.names.proofs.Walk.{walk_start, walk_on, walk_ends, name_read, hash_read, child_read, no_child}
 use Rattle.names.proofs.names.Names.leaf.Goals as goal
 use Rattle.names.proofs.names.Names.leaf.Goals.{Joined-else-link-hash, Joined-then-next-at, else-link-hash-via-then-link-hash+else-eq, else-link-hash-via-else-link-hash, then-next-at-via-then-next-at, then-next-at-via-else-next-at+then-next-len}
 use Rattle.std.proofs.lemmas.Bool.Decides.{Decides-eqb}
@@ -58,6 +58,6 @@ returns-then-next-at c =
 pub loop-name-preserved : goal.loop-name-preserved
 loop-name-preserved c =
     let w = c.loop-name.invariant in
-    walk-on c.child-next.result w (other (goal.at.loop-name-preserved c).Joined-else-link-hash)
+    walk_on c.child-next.result w (other (goal.at.loop-name-preserved c).Joined-else-link-hash)
     (child_read (vec_items c.args.self.now.links) c.loop-name.at c.child-next.result c.index-link.result.now c.bit-high.result _ w.within c.index-link.ensures c.child-next.ensures c.bit-high.ensures
     c.if-next-at.false (omega (arith, c.if-next-len.false, c.len.ensures, c.args.self.now.links.ok.0)))
