@@ -6,9 +6,7 @@ ghost use Rattle.text.specs.NumberWorth.{NumbersWrite, WritersAreNumbers, Writes
 ghost use Rattle.text.specs.NormalForm.{DigitsTo, Sized, Led, Powered, Grown, Trimmed, Signs, Split, start_of, Told, WholeOf, WholeNormal, OfWhole, FormsAreUnique, EqualNumbersEqualForms, EqualFormsEqualNumbers, WholesAreUnique};
 
 use crate::fault::Fault;
-
-// The most bytes of a number, its sign included.
-const LONGEST_NUMBER: usize = 1000;
+use crate::limits::LONGEST_NUMBER;
 
 // The greatest written exponent, without its sign.
 const GREATEST_EXPONENT: u32 = 999_999;
@@ -233,21 +231,17 @@ pub fn of_whole(text: &[u8]) -> (Scale, &[u8])
 }
 
 // Each number writes one thing, and what writes something is a number; to be worth the same is an equivalence.
-pub fn worth_stands() -> u8
+pub fn worth_stands()
     ensures written { NumbersWrite }
     ensures numbers { WritersAreNumbers }
     ensures once { WritesOnce }
     ensures alike { WorthIsEquivalence }
-{
-    0
-}
+{}
 
 // Numbers have the same normal form exactly where they are worth the same.
-pub fn forms_stand() -> u8
+pub fn forms_stand()
     ensures unique { FormsAreUnique }
     ensures equal { EqualNumbersEqualForms }
     ensures worth { EqualFormsEqualNumbers }
     ensures wholes { WholesAreUnique }
-{
-    0
-}
+{}

@@ -8,11 +8,9 @@ ghost use Rattle.text.specs.declared.language.Language.TheVariants.{Graphql};
 
 use crate::fault::Fault;
 use crate::language::Language;
+use crate::limits::LONGEST_NAME;
 use crate::token::{Lexeme, Token, begins_number};
 use crate::{number, string};
-
-// A name has at most so many bytes.
-const LONGEST_NAME: usize = 127;
 
 const BYTE_ORDER_MARK: char = '\u{FEFF}';
 

@@ -6,6 +6,7 @@ pub mod fault;
 pub mod graphql;
 pub mod json;
 pub mod language;
+pub mod limits;
 pub mod number;
 pub mod string;
 pub mod token;

@@ -4,6 +4,7 @@ ghost use Rattle.text.specs.NumberMoves.{Stepped, kind_in};
 ghost use Rattle.text.specs.NumberScan.{Scanned, OneScan};
 
 use crate::fault::Fault;
+use crate::limits::LONGEST_NUMBER;
 
 // A number with neither a fraction nor an exponent is whole.
 #[derive(Clone, Copy, Debug, PartialEq)]
@@ -25,9 +26,6 @@ enum State {
     ExpSign,
     ExpDigits,
 }
-
-// A number token has at most so many bytes.
-const LONGEST_NUMBER: usize = 1000;
 
 // The digits of an exponent write less than this.
 const LONG_EXPONENT: u32 = 1_000_000;
@@ -103,8 +101,6 @@ pub fn scan(text: &[u8], at: usize) -> Result<(usize, NumberKind), Fault>
 }
 
 // The contract of `scan` has one answer at each place of each text.
-pub fn one_scan() -> u8
+pub fn one_scan()
     ensures { OneScan }
-{
-    0
-}
+{}
