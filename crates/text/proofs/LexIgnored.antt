@@ -132,21 +132,6 @@ module _ {text : List ℕ} {at here : ℕ} (s : CommentSofar text at here) where
         only = λ r c. o ∙ by_break b (subst (λ l. CommentRest l r) o (s.back r c));
       }
 
--- a byte order mark
-by_mark : {xs r s : List ℕ} {c : ℕ} → Utf8Char xs c r → ByteOrderMark xs s → (c ≡ 65279) × (r ≡ s)
-by_mark u v = utf8_same u v
-
-pub mark_step : (text : List ℕ) (i j c : ℕ) → Exactly Utf8Char text i c j → c ≡ 65279 → StepAt ByteOrderMark text i j
-mark_step text i j c x e = record {
-  forward = x.forward;
-  within = x.within;
-  reads = subst (λ n. Utf8Char (drop i text) n (drop j text)) e x.reads;
-  only = λ r q. (by_mark x.reads q).1;
-}
-
-pub other_char : (text : List ℕ) (i j c : ℕ) → Exactly Utf8Char text i c j → c ≢ 65279 → (r : List ℕ) → ByteOrderMark (drop i text) r → ⊥
-other_char text i j c x n r q = n (by_mark x.reads q).0
-
 -- one thing that is ignored, by its first byte
 nil_ignored : {r : List ℕ} → GraphqlIgnored [] r → ⊥
 nil_ignored (unicode_bom u) = omega (arith, some_char u)

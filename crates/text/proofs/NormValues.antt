@@ -135,9 +135,6 @@ pub record Filled (base : ℕ) (before ds text : List ℕ) (i : ℕ) : Type 0 wh
   pub most : length ds ≤ length before + i
   pub held : (v : ℕ) → Held (drop base before) v → Each text → Held (drop base ds) (after v (take i text))
 
-pub filled_none : (base : ℕ) (before text : List ℕ) → Filled base before before text 0
-filled_none base before text = record { kept = refl; more = omega arith; most = omega arith; held = λ v h a. h }
-
 pub pushed : (base : ℕ) (before ds ds' text : List ℕ) (i : ℕ) → base ≤ length before → Filled base before ds text i → i < length text → ds' ≡ ds ++ get_or text i 0 ∷ [] → (drop base ds ≡ [] → get_or text i 0 ≢ 48) → Filled base before ds' text (i + 1)
 pushed base before ds ds' text i b f l e n =
     let long : base ≤ length ds = omega (arith, f.more) in

@@ -153,14 +153,6 @@ module _ {language : Language} {raw : List ℕ} {at : ℕ} {before now : List �
   pub so_far : Extended before now
   so_far = record { more = encodes s.chars; is = s.held }
 
-pub undone : (language : Language) (raw before middle after : List ℕ) (f : Fault) → AddTold language raw before middle (Err f) → after ≡ take (length before) middle → DecodeTold language raw before after (Err f)
-undone language raw before middle after (BadText k) p e = (p.0, e ∙ cut middle before p.1.more (length before) p.1.is refl)
-undone language raw before middle after NoMemory p e = e ∙ cut middle before p.more (length before) p.is refl
-undone language raw before middle after (TooDeep k) p e = p
-undone language raw before middle after (NoSpace k) p e = p
-undone language raw before middle after (RepeatedName k) p e = p
-undone language raw before middle after (LongNumber k) p e = p
-
 -- ---- scanning: the characters before `next` were read
 pub record Scanning (language : Language) (text : List ℕ) (at next : ℕ) (plain : Bool) : Type 0 where
   pub chars : List ℕ
