@@ -1,5 +1,5 @@
 -- What is found from a place on.
-use Rattle.std.proofs.Common.{◌≡◌, ◌==◌, ℕ, ◌+◌, ◌-◌, ◌<◌, ◌≤◌, Bool, true, false, List, ◌++◌, length, take, drop, IfOk, Ok, Err, Result, sym, ap, ◌∙◌, subst, arith, length-append, length-drop}
+use Rattle.std.proofs.Common.{◌≡◌, ◌==◌, ℕ, ◌+◌, ◌-◌, ◌<◌, ◌≤◌, Bool, true, false, List, ◌++◌, length, take, drop, IfOk, Ok, Err, Result, sym, refl, ap, ◌∙◌, subst, arith, length-append, length-drop}
 use Rattle.std.proofs.lemmas.Slice.Eq.{starts_is}
 use Rattle.std.proofs.lemmas.List.{drop-drop, take_rest}
 use Rattle.std.specs.List.{starts_with}
@@ -7,8 +7,15 @@ use Rattle.text.specs.declared.fault.Fault.{Fault}
 use Rattle.text.specs.declared.fault.Fault.TheVariants.{BadText, TooDeep, NoSpace, RepeatedName, LongNumber, NoMemory}
 use Rattle.text.specs.declared.language.Language.{Language}
 use Rattle.text.specs.declared.token.Lexeme.{Lexeme}
+use Rattle.text.specs.declared.token.Token.TheVariants.{End}
 use Rattle.text.specs.Places.{Placed, is_end}
-use Rattle.text.specs.TokenFound.{Skipped, TokenHere, TokenTold}
+use Rattle.text.specs.declared.number.NumberKind.{NumberKind}
+use Rattle.text.specs.NumberScan.{Found, Unfinished}
+use Rattle.text.specs.StringGrammar.{Reads}
+use Rattle.text.specs.StringDecode.{Scanned, Nothing}
+use Rattle.text.specs.TokenFound.{View, v_number, v_text, v_end, view_of, Skipped, TokenAt, NoToken, TokenHere, FoundHere, NumeralTold, QuotedTold, TokenTold}
+use Rattle.text.specs.Cuts.{part}
+use Rattle.text.proofs.LexNumber.{scan_refused}
 use Rattle.std.proofs.lemmas.Bool.Decides.{Decides-eqb}
 
 pub told : (language : Language) (text : List ℕ) (at start : ℕ) (r : Result Lexeme Fault) → Skipped language text at start → TokenHere language text start r → TokenTold language text at r
@@ -29,6 +36,36 @@ stands_placed size start end last h k = record { onward = λ a. omega arith; ord
 
 pub torn : {b : Bool} → b ≡ true → b ≡ false → ⊥
 torn t f = let z : ◌≡◌ {A = ℕ} 0 1 = cc in omega arith
+
+-- a token that some bytes are, and none
+module _ (language : Language) (text : List ℕ) (i : ℕ) where
+  pub found_here : (l : Lexeme) → l.start ≡ i → TokenAt language text i l.end (view_of l.token) → i < l.end → FoundHere language text i (Ok l)
+  found_here l e t h =
+      let P : ℕ → Type 0 = λ k. TokenAt language text k l.end (view_of l.token) in
+      let Q : ℕ → Type 0 = λ k. Placed (length text) i k l.end (is_end l.token) in
+      record { found = (e, subst P (sym e) t); placed = subst Q (sym e) (stands_placed (length text) i l.end (is_end l.token) h t.within) }
+
+  pub end_here : i ≤ length text → TokenAt language text i i v_end → FoundHere language text i (Ok record { token = End; start = i; end = i })
+  end_here h t = record {
+    found = (refl, t);
+    placed = record { onward = λ h. omega arith; ordered = omega arith; within = h; some = λ e. absurd (torn refl e) };
+  }
+
+  pub none_here : NoToken language text i → FoundHere language text i (Err (BadText i))
+  none_here n = record { found = (refl, n); placed = tt }
+
+  pub numeral_told : ((j : ℕ) (k : NumberKind) (view : View) → Found text i j k → view ≡ v_number k (part text i j) → TokenAt language text i j view) → (Unfinished text i → NoToken language text i)
+      → (r : Result Lexeme Fault) → NumeralTold text i r → FoundHere language text i r
+  numeral_told h n (Ok l) t = let f = t.1.1 in found_here l t.0 (h l.end t.1.0 (view_of l.token) f t.1.2) f.some
+  numeral_told h n (Err f) t = record { found = scan_refused language text i n f t; placed = tt }
+
+  pub quoted_told : ((j : ℕ) (plain : Bool) → Scanned language text (i + 1) j plain → TokenAt language text i j (v_text (part text (i + 1) (j - 1)) plain)) → (Nothing (Reads language) text (i + 1) → NoToken language text i)
+      → (r : Result Lexeme Fault) → QuotedTold language text i r → FoundHere language text i r
+  quoted_told h n (Ok l) t =
+      let s = t.1.1 in
+      let P : View → Type 0 = TokenAt language text i l.end in
+      found_here l t.0 (subst P (sym t.1.2) (h l.end t.1.0 s)) (omega (arith, s.stands.forward))
+  quoted_told h n (Err f) t = subst (λ (g : Fault). FoundHere language text i (Err g)) (sym t.0) (none_here (n t.1))
 
 -- what `starts_with` says of the text from a place on
 pub begins_with : (text word : List ℕ) (i : ℕ) (r : Bool) → r ≡ starts_with ◌==◌ (take (length text - i) (drop i text)) word
