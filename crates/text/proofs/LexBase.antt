@@ -1,5 +1,5 @@
 -- The bytes of a text from a place on.
-use Rattle.std.proofs.Common.{◌≡◌, ℕ, ◌+◌, ◌-◌, ◌<◌, ◌≤◌, List, [], ◌∷◌, ◌++◌, length, get_or, drop, sym, ap, ◌∙◌, subst, arith, length-drop}
+use Rattle.std.proofs.Common.{◌≡◌, ℕ, zero, suc, ◌+◌, ◌-◌, ◌<◌, ◌≤◌, List, [], ◌∷◌, ◌++◌, length, get_or, drop, sym, ap, ◌∙◌, subst, arith, length-drop}
 use Rattle.std.proofs.lemmas.List.{drop_all, drop_more, take-append-drop, drop-drop, length-take-le}
 use Rattle.text.specs.TokenGrammar.{NotAhead}
 use Rattle.text.specs.Cuts.{part}
@@ -35,3 +35,15 @@ same_place text i j h k e = omega (arith, ap length e, length-drop i text, lengt
 pub front : {b : ℕ} {t : List ℕ} (xs ys : List ℕ) → 0 < length xs → xs ++ ys ≡ b ∷ t → (u : List ℕ) × (xs ≡ b ∷ u)
 front [] ys h e = absurd (omega arith)
 front {b} {t} (x ∷ xs) ys h e = let f : x ∷ (xs ++ ys) ≡ b ∷ t = e in let g : x ≡ b = cc in (xs, ap (λ n. n ∷ xs) g)
+
+upward : (P : ℕ → Type 0) (i n : ℕ) → P i → ((k : ℕ) → i ≤ k → k < i + n → P k → P (k + 1)) → P (i + n)
+upward P i zero p step = let e : i ≡ i + 0 = omega arith in subst P e p
+upward P i (suc n) p step =
+    let e : (i + n) + 1 ≡ i + suc n = omega arith in
+    subst P e (step (i + n) (omega arith) (omega arith) (upward P i n p (λ k a b. step k a (omega arith))))
+
+-- what holds at i and is handed on from each place to the next holds at j
+pub along : (P : ℕ → Type 0) (i j : ℕ) → i ≤ j → P i → ((k : ℕ) → i ≤ k → k < j → P k → P (k + 1)) → P j
+along P i j h p step =
+    let e : i + (j - i) ≡ j = omega arith in
+    subst P e (upward P i (j - i) p (λ k a b. step k a (omega arith)))

@@ -7,6 +7,7 @@ ghost use Rattle.text.specs.NormalForm.{DigitsTo, Sized, Led, Powered, Grown, Tr
 
 use crate::fault::Fault;
 use crate::limits::LONGEST_NUMBER;
+use crate::run::run_end;
 
 // The greatest written exponent, without its sign.
 const GREATEST_EXPONENT: u32 = 999_999;
@@ -38,11 +39,7 @@ fn run(text: &[u8], at: usize) -> usize
     requires { at ≤ length text.now }
     ensures { DigitsTo text.now at result }
 {
-    let mut to = at;
-    while to < text.len() && b'0' <= text[to] && text[to] <= b'9' {
-        to += 1;
-    }
-    to
+    run_end(text, at, |byte| byte.is_ascii_digit())
 }
 
 // The number that the digits write, if it has at most six after leading zeros.

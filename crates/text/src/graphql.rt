@@ -9,6 +9,7 @@ ghost use Rattle.text.specs.declared.language.Language.TheVariants.{Graphql};
 use crate::fault::Fault;
 use crate::language::Language;
 use crate::limits::LONGEST_NAME;
+use crate::run::run_end;
 use crate::token::{Lexeme, Token, begins_number};
 use crate::{string, token};
 
@@ -105,11 +106,7 @@ fn name_end(text: &[u8], start: usize) -> usize
     requires { start < length text.now }
     ensures { NameEnd text.now start result }
 {
-    let mut end = start + 1;
-    while end < text.len() && continues_name(text[end]) {
-        end += 1;
-    }
-    end
+    run_end(text, start + 1, continues_name)
 }
 
 // The name that begins at `start`.

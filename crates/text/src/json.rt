@@ -7,6 +7,7 @@ ghost use Rattle.text.specs.declared.language.Language.TheVariants.{Json};
 
 use crate::fault::Fault;
 use crate::language::Language;
+use crate::run::run_end;
 use crate::token::{Lexeme, Token, begins_number, numeral, quoted};
 
 fn white_space(byte: u8) -> bool
@@ -19,11 +20,7 @@ fn white_space(byte: u8) -> bool
 fn skip(text: &[u8], at: usize) -> usize
     ensures { Skipped Json text.now at result }
 {
-    let mut next = at.min(text.len());
-    while next < text.len() && white_space(text[next]) {
-        next += 1;
-    }
-    next
+    run_end(text, at.min(text.len()), white_space)
 }
 
 // The structural character that a byte is.

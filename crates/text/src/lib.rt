@@ -8,5 +8,6 @@ pub mod json;
 pub mod language;
 pub mod limits;
 pub mod number;
+mod run;
 pub mod string;
 pub mod token;
