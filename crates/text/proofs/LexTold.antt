@@ -1,8 +1,5 @@
 -- What is found from a place on.
-use Rattle.std.proofs.Common.{◌≡◌, ◌==◌, ℕ, ◌+◌, ◌-◌, ◌<◌, ◌≤◌, Bool, true, false, List, ◌++◌, length, take, drop, IfOk, Ok, Err, Result, sym, refl, ap, ◌∙◌, subst, arith, length-append, length-drop}
-use Rattle.std.proofs.lemmas.Slice.Eq.{starts_is}
-use Rattle.std.proofs.lemmas.List.{drop-drop, take_rest}
-use Rattle.std.specs.List.{starts_with}
+use Rattle.std.proofs.Common.{◌≡◌, ℕ, ◌+◌, ◌-◌, ◌<◌, ◌≤◌, Bool, List, length, IfOk, Ok, Err, Result, sym, refl, subst, arith}
 use Rattle.text.specs.declared.fault.Fault.{Fault}
 use Rattle.text.specs.declared.fault.Fault.TheVariants.{BadText, TooDeep, NoSpace, RepeatedName, LongNumber, NoMemory}
 use Rattle.text.specs.declared.language.Language.{Language}
@@ -16,7 +13,7 @@ use Rattle.text.specs.StringDecode.{Scanned, Nothing}
 use Rattle.text.specs.TokenFound.{View, v_number, v_text, v_end, view_of, Skipped, TokenAt, NoToken, TokenHere, FoundHere, NumeralTold, QuotedTold, TokenTold}
 use Rattle.text.specs.Cuts.{part}
 use Rattle.text.proofs.LexNumber.{scan_refused}
-use Rattle.std.proofs.lemmas.Bool.Decides.{Decides-eqb}
+use Rattle.text.proofs.LexBase.{torn}
 
 pub told : (language : Language) (text : List ℕ) (at start : ℕ) (r : Result Lexeme Fault) → Skipped language text at start → TokenHere language text start r → TokenTold language text at r
 told language text at start (Ok l) s h = (subst (Skipped language text at) (sym h.0) s, h.1)
@@ -33,9 +30,6 @@ placed_on size at start (Err f) h k p = tt
 
 pub stands_placed : (size start end : ℕ) (last : Bool) → start < end → end ≤ size → Placed size start start end last
 stands_placed size start end last h k = record { onward = λ a. omega arith; ordered = omega arith; within = k; some = λ e. h }
-
-pub torn : {b : Bool} → b ≡ true → b ≡ false → ⊥
-torn t f = let z : ◌≡◌ {A = ℕ} 0 1 = cc in omega arith
 
 -- a token that some bytes are, and none
 module _ (language : Language) (text : List ℕ) (i : ℕ) where
@@ -66,16 +60,3 @@ module _ (language : Language) (text : List ℕ) (i : ℕ) where
       let P : View → Type 0 = TokenAt language text i l.end in
       found_here l t.0 (subst P (sym t.1.2) (h l.end t.1.0 s)) (omega (arith, s.stands.forward))
   quoted_told h n (Err f) t = subst (λ (g : Fault). FoundHere language text i (Err g)) (sym t.0) (none_here (n t.1))
-
--- what `starts_with` says of the text from a place on
-pub begins_with : (text word : List ℕ) (i : ℕ) (r : Bool) → r ≡ starts_with ◌==◌ (take (length text - i) (drop i text)) word
-    → (r ≡ true → drop i text ≡ word ++ drop (i + length word) text) × ((rest : List ℕ) → drop i text ≡ word ++ rest → r ≡ true)
-begins_with text word i r m =
-    let s = starts_is Decides-eqb (take (length text - i) (drop i text)) word r m in
-    let q = take_rest text i in (
-      λ t. subst (λ l. l ≡ word ++ drop (length word) l) q (s.0 t) ∙ ap (λ l. word ++ l) (drop-drop (length word) i text),
-      λ rest e. s.1 rest (q ∙ e),
-    )
-
-pub begins_fits : (text word : List ℕ) (i : ℕ) → 0 < length word → drop i text ≡ word ++ drop (i + length word) text → i + length word ≤ length text
-begins_fits text word i h e = omega (arith, ap length e, length-append word (drop (i + length word) text), length-drop i text)

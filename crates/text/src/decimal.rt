@@ -48,10 +48,7 @@ fn size(digits: &[u8]) -> Option<u32>
 {
     let mut value: u32 = 0;
     for b in digits {
-        if *b < b'0' || *b > b'9' {
-            return None;
-        }
-        value = value * 10 + (*b - b'0') as u32;
+        value = value * 10 + char::from(*b).to_digit(10)?;
         if value > GREATEST_EXPONENT {
             return None;
         }
@@ -64,13 +61,12 @@ fn lead(text: &[u8], at: usize) -> (bool, usize)
     requires { at ≤ length text.now }
     ensures { Led text.now at result.0 result.1 }
 {
-    if at >= text.len() {
-        return (false, at);
-    }
-    match text[at] {
-        b'-' => (true, at + 1),
-        b'+' => (false, at + 1),
-        _ => (false, at),
+    if text[at..].starts_with(b"-") {
+        (true, at + 1)
+    } else if text[at..].starts_with(b"+") {
+        (false, at + 1)
+    } else {
+        (false, at)
     }
 }
 
@@ -83,11 +79,8 @@ fn power(text: &[u8], at: usize) -> Option<i32>
         return Some(0);
     }
     let (less, from) = lead(text, at + 1);
-    let Some(size) = size(&text[from..]) else {
-        return None;
-    };
-    let size = size as i32;
-    if less { Some(-size) } else { Some(size) }
+    let size = size(&text[from..])? as i32;
+    Some(if less { -size } else { size })
 }
 
 // Adds digits after those from `base` on, and no zero before the first other digit.
@@ -109,25 +102,25 @@ fn trimmed(digits: &[u8], from: usize) -> usize
     requires { from ≤ length digits.now }
     ensures { Trimmed digits.now from result }
 {
-    let mut end = digits.len();
-    while end > from && digits[end - 1] == b'0' {
-        end -= 1;
+    let mut rest = &digits[from..];
+    while let [front @ .., b'0'] = rest {
+        rest = front;
     }
-    end
+    from + rest.len()
 }
 
 // Whether the number has a minus.
 fn minus(text: &[u8]) -> bool
     ensures { Signs text.now result }
 {
-    !text.is_empty() && text[0] == b'-'
+    text.starts_with(b"-")
 }
 
 // Where the digits begin.
 fn begin(negative: bool) -> usize
     ensures { result ≡ start_of negative }
 {
-    if negative { 1 } else { 0 }
+    usize::from(negative)
 }
 
 // Where the parts of the number stand that begins at `start`, after its minus if any.
@@ -136,21 +129,16 @@ fn locate(text: &[u8], start: usize) -> Parts
     ensures { Split text.now start result }
 {
     let point = run(text, start);
-    if point < text.len() && text[point] == b'.' {
-        let mark = run(text, point + 1);
-        Parts {
-            start,
-            point,
-            places: point + 1,
-            mark,
-        }
+    let (places, mark) = if text[point..].starts_with(b".") {
+        (point + 1, run(text, point + 1))
     } else {
-        Parts {
-            start,
-            point,
-            places: point,
-            mark: point,
-        }
+        (point, point)
+    };
+    Parts {
+        start,
+        point,
+        places,
+        mark,
     }
 }
 
@@ -178,9 +166,7 @@ pub fn normal(text: &[u8], out: &mut Vec<u8>) -> Result<Scale, Fault>
         places,
         mark,
     } = locate(text, begin(negative));
-    let Some(power) = power(text, mark) else {
-        return Err(Fault::LongNumber(0));
-    };
+    let power = power(text, mark).ok_or(Fault::LongNumber(0))?;
     let base = out.len();
     out.reserve(mark - start)?;
     add(out, base, &text[start..point]);

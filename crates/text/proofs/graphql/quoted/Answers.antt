@@ -1,6 +1,7 @@
 use Rattle.std.proofs.Common.{◌+◌, [], ◌∷◌, drop}
 use Rattle.text.specs.declared.language.Language.TheVariants.{Graphql}
-use Rattle.text.proofs.LexTold.{torn, begins_with, none_here, quoted_told}
+use Rattle.text.proofs.LexBase.{torn, begins_with}
+use Rattle.text.proofs.LexTold.{none_here, quoted_told}
 use Rattle.text.proofs.LexGraphql.{string_here, no_string, no_block}
 use Rattle.text.proofs.graphql.quoted.Goals as goal
 

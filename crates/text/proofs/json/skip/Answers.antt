@@ -1,5 +1,4 @@
 use Rattle.std.proofs.Common.{◌+◌, arith, rules}
-use Rattle.text.specs.TokenGrammar.{WhiteSpace}
 use Rattle.text.specs.declared.language.Language.TheVariants.{Json}
 use Rattle.text.proofs.LexBase.{along}
 use Rattle.text.proofs.LexSkip.{SkipSofar, skip_start, skip_more, skip_done}

@@ -1,6 +1,6 @@
 use Rattle.std.proofs.Common.{[], ◌∷◌, ⊎_elim, arith}
 use Rattle.text.proofs.StrHexes.{shape, by_low, low_stands}
-use Rattle.text.proofs.LexTold.{torn, begins_with}
+use Rattle.text.proofs.LexBase.{torn, begins_with}
 use Rattle.text.proofs.string.low_surrogate.Goals as goal
 
 pub returns-then-not-starts_with : goal.returns-then-not-starts_with
