@@ -38,7 +38,7 @@ fraction_cut {x = x} {y = y} (fraction d w) (fraction c z) u v e = digits_cut x 
 
 power_once : {e : List ℕ} {p q : ℤ} → Power e p → Power e q → p ≡ q
 power_once no_power b = by_nothing b
-power_once (plain m d r) b = sym (by_other (λ h. omega arith) (λ h. omega arith) b).0
+power_once (plain m d r) b = sym (by_other (λ r e. omega (arith, ap head e)) (λ r e. omega (arith, ap head e)) b).0
 power_once (more m d r) b = sym (by_plus b).0
 power_once (less m d r) b = sym (by_minus b).0
 

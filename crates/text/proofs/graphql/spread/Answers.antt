@@ -1,5 +1,6 @@
 use Rattle.std.proofs.Common.{[], ◌∷◌, refl, arith}
-use Rattle.text.proofs.LexTold.{stands_placed, torn, begins_with, begins_fits}
+use Rattle.text.proofs.LexBase.{torn, begins_with, begins_fits}
+use Rattle.text.proofs.LexTold.{stands_placed}
 use Rattle.text.proofs.LexGraphql.{spread_here, no_spread}
 use Rattle.text.proofs.graphql.spread.Goals as goal
 
