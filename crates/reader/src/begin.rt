@@ -44,7 +44,7 @@ fn word_node(word: &[u8], start: usize, end: usize, name: Part) -> Node
         return Node::new(Kind::Boolean, start, name);
     }
     Node {
-        text: Part::of_text(start, end),
+        text: Part::Text { start, end },
         ..Node::new(Kind::Enum, start, name)
     }
 }
@@ -55,7 +55,7 @@ fn whole_node(spelled: &[u8], start: usize, end: usize, name: Part) -> Node
 {
     let from = end.saturating_sub(decimal::whole(spelled).len());
     Node {
-        text: Part::of_text(from, end),
+        text: Part::Text { start: from, end },
         ..Node::new(Kind::Whole, start, name)
     }
 }
@@ -69,7 +69,10 @@ fn decimal_node(spelled: &[u8], start: usize, name: Part, pool: &mut Vec<u8>) ->
     let scale = decimal::normal(spelled, pool)?;
     Ok(Node {
         scale,
-        text: Part::of_pool(from, pool.len()),
+        text: Part::Pool {
+            start: from,
+            end: pool.len(),
+        },
         ..Node::new(Kind::Decimal, start, name)
     })
 }
@@ -87,11 +90,17 @@ pub(crate) fn string_part(
     ensures { (text cs : List ℕ) → raw.now ≡ cut_out text (lexeme.entry.start + 1) (lexeme.entry.end - 1) → Writes language text (lexeme.entry.start + 1) lexeme.entry.end plain cs → PartTold text pool.old.items pool.new.items (encodes cs) result }
 {
     if plain {
-        return Ok(Part::of_text(lexeme.start + 1, lexeme.end - 1));
+        return Ok(Part::Text {
+            start: lexeme.start + 1,
+            end: lexeme.end - 1,
+        });
     }
     let from = pool.len();
     string::decode(raw, language, pool)?;
-    Ok(Part::of_pool(from, pool.len()))
+    Ok(Part::Pool {
+        start: from,
+        end: pool.len(),
+    })
 }
 
 // The node of a value that begins with the token; nothing is below it yet.

@@ -78,10 +78,6 @@ impl Source for Json<'_> {
     fn name(&self, at: usize) -> &[u8] {
         self.tree.name(at)
     }
-
-    fn member(&self, at: usize, name: &[u8]) -> Option<usize> {
-        self.tree.member(at, name)
-    }
 }
 
 // The one value that is the whole text.

@@ -116,10 +116,6 @@ impl Source for Literal<'_, '_> {
     fn name(&self, at: usize) -> &[u8] {
         self.tree.name(at)
     }
-
-    fn member(&self, at: usize, name: &[u8]) -> Option<usize> {
-        self.tree.member(at, name)
-    }
 }
 
 // The one value that is the whole text.
@@ -158,4 +154,27 @@ pub fn literal_at(text: &[u8], at: usize, depth: usize, nodes: &mut Nodes) -> Re
         manner,
         nodes,
     )
+}
+
+impl Literal<'_, '_> {
+    // The place of the object's first member whose name an earlier member has.
+    fn repeated_name(&self, object: usize) -> Option<usize> {
+        let mut span = self.inside(object);
+        while let Some((at, rest)) = self.next(span) {
+            if self.member(object, self.name(at)) != Some(at) {
+                return Some(self.tree.nodes.get(at).name.start());
+            }
+            span = rest;
+        }
+        None
+    }
+}
+
+// The least place of a member's name that an earlier member of the same object has.
+pub fn repeated_member(tree: &Tree<'_>) -> Option<usize> {
+    let literal = Literal::new(tree, 0);
+    (0..tree.nodes.list.len())
+        .filter(|at| literal.kind(*at) == Kind::Object)
+        .filter_map(|at| literal.repeated_name(at))
+        .min()
 }

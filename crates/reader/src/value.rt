@@ -10,7 +10,7 @@ use crate::begin::{begin, string_part, token};
 use crate::manner::{Closing, Manner, Step};
 use crate::marks::{closes, is_colon, is_comma};
 use names::names::Names;
-use names::part::Part;
+use names::part::{Holder, Part};
 use source::limits::LONGEST_NAME;
 use source::nodes::{Node, Nodes};
 use source::raw::Kind;
@@ -48,7 +48,10 @@ fn name_part(lexeme: Lexeme<'_>, language: Language, pool: &mut Vec<u8>) -> Resu
         (Language::Json, Token::Text { raw, plain }) => string_part(
             lexeme, raw, plain, language, pool,
         ),
-        (Language::Graphql, Token::Name(_)) => Ok(Part::of_text(lexeme.start, lexeme.end)),
+        (Language::Graphql, Token::Name(_)) => Ok(Part::Text {
+            start: lexeme.start,
+            end: lexeme.end,
+        }),
         _ => Err(Fault::BadText(lexeme.start)),
     }
 }
@@ -65,7 +68,7 @@ fn register(
     ensures { NewTold distinct text.now pool.now base names.old.links.items names.new.links.items name result }
 {
     if distinct {
-        names.add(base, text, pool, name)
+        names.add(base, Holder { text, pool }, name)
     } else {
         Ok(true)
     }
@@ -116,7 +119,10 @@ fn variable(
         return Err(Fault::BadText(lexeme.start));
     };
     nodes.add(Node {
-        text: Part::of_text(lexeme.start, lexeme.end),
+        text: Part::Text {
+            start: lexeme.start,
+            end: lexeme.end,
+        },
         ..node
     })?;
     Ok(lexeme.end)

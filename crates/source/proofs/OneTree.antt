@@ -1,59 +1,48 @@
 -- One tree at most stands at a cursor.
-use Rattle.std.proofs.Common.{◌≡◌, ℕ, ◌+◌, ◌<◌, sym, refl, ap, ◌∙◌, arith}
+use Rattle.std.proofs.Common.{◌≡◌, ◌≢◌, ℕ, ◌+◌, sym, refl, ap, ◌∙◌, arith}
 use Rattle.model.specs.Values.{Dec, Scalar, boolean, whole, decimal, string, symbol, Raw, Raws, Mems, null, scalar, variable, list, object, nil, cons, end, mem}
-use Rattle.source.specs.declared.raw.Kind.{Kind}
-use Rattle.source.specs.declared.raw.Kind.TheVariants.{Null, Boolean, Whole, Decimal, String, Enum, Variable, List as ListKind, Object}
+use Rattle.source.specs.declared.raw.Kind.TheVariants.{Null, Variable, List as ListKind, Object}
 use Rattle.source.specs.Heads.{scalar_kind, scalar_flag, scalar_text, scalar_negative, scalar_exponent, kind_of}
 use Rattle.source.specs.Table.{Table, Head, Stands, StandsAll, StandsMems, Held}
 use Rattle.source.specs.Standing.{Lawful}
 use Rattle.source.proofs.Standings.{head_of, forward_all, forward_mems}
 
-abbrev number : Kind → ℕ
-number Null = 0
-number Boolean = 1
-number Whole = 2
-number Decimal = 3
-number String = 4
-number Enum = 5
-number Variable = 6
-number ListKind = 7
-number Object = 8
-
-scalar_number : (s : Scalar) → (0 < number (scalar_kind s)) × (number (scalar_kind s) < 6)
-scalar_number (boolean b) = (omega arith, omega arith)
-scalar_number (whole s) = (omega arith, omega arith)
-scalar_number (decimal d) = (omega arith, omega arith)
-scalar_number (string s) = (omega arith, omega arith)
-scalar_number (symbol s) = (omega arith, omega arith)
+-- no scalar is of the kind of another value
+scalar_apart : (s : Scalar) → (scalar_kind s ≢ Null) × (scalar_kind s ≢ Variable) × (scalar_kind s ≢ ListKind) × (scalar_kind s ≢ Object)
+scalar_apart (boolean b) = ((λ e. cc), (λ e. cc), (λ e. cc), (λ e. cc))
+scalar_apart (whole s) = ((λ e. cc), (λ e. cc), (λ e. cc), (λ e. cc))
+scalar_apart (decimal d) = ((λ e. cc), (λ e. cc), (λ e. cc), (λ e. cc))
+scalar_apart (string s) = ((λ e. cc), (λ e. cc), (λ e. cc), (λ e. cc))
+scalar_apart (symbol s) = ((λ e. cc), (λ e. cc), (λ e. cc), (λ e. cc))
 
 one_dec : (d e : Dec) → d.negative ≡ e.negative → d.exponent ≡ e.exponent → d.digits ≡ e.digits → d ≡ e
 one_dec d e p q r = λ i. record { negative = p i; exponent = q i; digits = r i }
 
 one_scalar : (s u : Scalar) → scalar_kind s ≡ scalar_kind u → scalar_flag s ≡ scalar_flag u → scalar_text s ≡ scalar_text u → scalar_negative s ≡ scalar_negative u → scalar_exponent s ≡ scalar_exponent u → s ≡ u
 one_scalar (boolean a) (boolean b) k f t n x = ap boolean f
-one_scalar (boolean a) (whole b) k f t n x = absurd (omega (arith, ap number k))
-one_scalar (boolean a) (decimal b) k f t n x = absurd (omega (arith, ap number k))
-one_scalar (boolean a) (string b) k f t n x = absurd (omega (arith, ap number k))
-one_scalar (boolean a) (symbol b) k f t n x = absurd (omega (arith, ap number k))
-one_scalar (whole a) (boolean b) k f t n x = absurd (omega (arith, ap number k))
+one_scalar (boolean a) (whole b) k f t n x = cc
+one_scalar (boolean a) (decimal b) k f t n x = cc
+one_scalar (boolean a) (string b) k f t n x = cc
+one_scalar (boolean a) (symbol b) k f t n x = cc
+one_scalar (whole a) (boolean b) k f t n x = cc
 one_scalar (whole a) (whole b) k f t n x = ap whole t
-one_scalar (whole a) (decimal b) k f t n x = absurd (omega (arith, ap number k))
-one_scalar (whole a) (string b) k f t n x = absurd (omega (arith, ap number k))
-one_scalar (whole a) (symbol b) k f t n x = absurd (omega (arith, ap number k))
-one_scalar (decimal a) (boolean b) k f t n x = absurd (omega (arith, ap number k))
-one_scalar (decimal a) (whole b) k f t n x = absurd (omega (arith, ap number k))
+one_scalar (whole a) (decimal b) k f t n x = cc
+one_scalar (whole a) (string b) k f t n x = cc
+one_scalar (whole a) (symbol b) k f t n x = cc
+one_scalar (decimal a) (boolean b) k f t n x = cc
+one_scalar (decimal a) (whole b) k f t n x = cc
 one_scalar (decimal d) (decimal e) k f t n x = ap decimal (one_dec d e n x t)
-one_scalar (decimal a) (string b) k f t n x = absurd (omega (arith, ap number k))
-one_scalar (decimal a) (symbol b) k f t n x = absurd (omega (arith, ap number k))
-one_scalar (string a) (boolean b) k f t n x = absurd (omega (arith, ap number k))
-one_scalar (string a) (whole b) k f t n x = absurd (omega (arith, ap number k))
-one_scalar (string a) (decimal b) k f t n x = absurd (omega (arith, ap number k))
+one_scalar (decimal a) (string b) k f t n x = cc
+one_scalar (decimal a) (symbol b) k f t n x = cc
+one_scalar (string a) (boolean b) k f t n x = cc
+one_scalar (string a) (whole b) k f t n x = cc
+one_scalar (string a) (decimal b) k f t n x = cc
 one_scalar (string a) (string b) k f t n x = ap string t
-one_scalar (string a) (symbol b) k f t n x = absurd (omega (arith, ap number k))
-one_scalar (symbol a) (boolean b) k f t n x = absurd (omega (arith, ap number k))
-one_scalar (symbol a) (whole b) k f t n x = absurd (omega (arith, ap number k))
-one_scalar (symbol a) (decimal b) k f t n x = absurd (omega (arith, ap number k))
-one_scalar (symbol a) (string b) k f t n x = absurd (omega (arith, ap number k))
+one_scalar (string a) (symbol b) k f t n x = cc
+one_scalar (symbol a) (boolean b) k f t n x = cc
+one_scalar (symbol a) (whole b) k f t n x = cc
+one_scalar (symbol a) (decimal b) k f t n x = cc
+one_scalar (symbol a) (string b) k f t n x = cc
 one_scalar (symbol a) (symbol b) k f t n x = ap symbol t
 
 module _ {T : Table} {at : ℕ} {t u : Raw} (g : Head T at t) (h : Head T at u) where
@@ -68,29 +57,29 @@ scalars_same {p = p} {q} s u g h =
 mutual
   pub one_tree : (T : Table) (at : ℕ) (t u : Raw) → Stands T at t → Stands T at u → t ≡ u
   one_tree T at (null p) (null q) g h = ap null (sym g.0.says.place ∙ h.0.says.place)
-  one_tree T at (null p) (scalar q u) g h = absurd (omega (arith, ap number (one_kind g.0 h.0), scalar_number u))
-  one_tree T at (null p) (variable q m) g h = absurd (omega (arith, ap number (one_kind g.0 h.0)))
-  one_tree T at (null p) (list q ys) g h = absurd (omega (arith, ap number (one_kind g.0 h.0)))
-  one_tree T at (null p) (object q ns) g h = absurd (omega (arith, ap number (one_kind g.0 h.0)))
-  one_tree T at (scalar p s) (null q) g h = absurd (omega (arith, ap number (one_kind g.0 h.0), scalar_number s))
+  one_tree T at (null p) (scalar q u) g h = absurd ((scalar_apart u).0 (sym (one_kind g.0 h.0)))
+  one_tree T at (null p) (variable q m) g h = cc (one_kind g.0 h.0)
+  one_tree T at (null p) (list q ys) g h = cc (one_kind g.0 h.0)
+  one_tree T at (null p) (object q ns) g h = cc (one_kind g.0 h.0)
+  one_tree T at (scalar p s) (null q) g h = absurd ((scalar_apart s).0 (one_kind g.0 h.0))
   one_tree T at (scalar p s) (scalar q u) g h = scalars_same s u g.0 h.0
-  one_tree T at (scalar p s) (variable q m) g h = absurd (omega (arith, ap number (one_kind g.0 h.0), scalar_number s))
-  one_tree T at (scalar p s) (list q ys) g h = absurd (omega (arith, ap number (one_kind g.0 h.0), scalar_number s))
-  one_tree T at (scalar p s) (object q ns) g h = absurd (omega (arith, ap number (one_kind g.0 h.0), scalar_number s))
-  one_tree T at (variable p n) (null q) g h = absurd (omega (arith, ap number (one_kind g.0 h.0)))
-  one_tree T at (variable p n) (scalar q u) g h = absurd (omega (arith, ap number (one_kind g.0 h.0), scalar_number u))
+  one_tree T at (scalar p s) (variable q m) g h = absurd ((scalar_apart s).1 (one_kind g.0 h.0))
+  one_tree T at (scalar p s) (list q ys) g h = absurd ((scalar_apart s).2 (one_kind g.0 h.0))
+  one_tree T at (scalar p s) (object q ns) g h = absurd ((scalar_apart s).3 (one_kind g.0 h.0))
+  one_tree T at (variable p n) (null q) g h = cc (one_kind g.0 h.0)
+  one_tree T at (variable p n) (scalar q u) g h = absurd ((scalar_apart u).1 (sym (one_kind g.0 h.0)))
   one_tree T at (variable p n) (variable q m) g h = ap (λ k. variable k n) (sym g.0.says.place ∙ h.0.says.place) ∙ ap (variable q) (sym g.0.says.text ∙ h.0.says.text)
-  one_tree T at (variable p n) (list q ys) g h = absurd (omega (arith, ap number (one_kind g.0 h.0)))
-  one_tree T at (variable p n) (object q ns) g h = absurd (omega (arith, ap number (one_kind g.0 h.0)))
-  one_tree T at (list p xs) (null q) g h = absurd (omega (arith, ap number (one_kind g.0 h.0)))
-  one_tree T at (list p xs) (scalar q u) g h = absurd (omega (arith, ap number (one_kind g.0 h.0), scalar_number u))
-  one_tree T at (list p xs) (variable q m) g h = absurd (omega (arith, ap number (one_kind g.0 h.0)))
+  one_tree T at (variable p n) (list q ys) g h = cc (one_kind g.0 h.0)
+  one_tree T at (variable p n) (object q ns) g h = cc (one_kind g.0 h.0)
+  one_tree T at (list p xs) (null q) g h = cc (one_kind g.0 h.0)
+  one_tree T at (list p xs) (scalar q u) g h = absurd ((scalar_apart u).2 (sym (one_kind g.0 h.0)))
+  one_tree T at (list p xs) (variable q m) g h = cc (one_kind g.0 h.0)
   one_tree T at (list p xs) (list q ys) g h = ap (λ k. list k xs) (sym g.0.says.place ∙ h.0.says.place) ∙ ap (list q) (one_all T (at + 1) _ xs ys g.1 h.1)
-  one_tree T at (list p xs) (object q ns) g h = absurd (omega (arith, ap number (one_kind g.0 h.0)))
-  one_tree T at (object p ms) (null q) g h = absurd (omega (arith, ap number (one_kind g.0 h.0)))
-  one_tree T at (object p ms) (scalar q u) g h = absurd (omega (arith, ap number (one_kind g.0 h.0), scalar_number u))
-  one_tree T at (object p ms) (variable q m) g h = absurd (omega (arith, ap number (one_kind g.0 h.0)))
-  one_tree T at (object p ms) (list q ys) g h = absurd (omega (arith, ap number (one_kind g.0 h.0)))
+  one_tree T at (list p xs) (object q ns) g h = cc (one_kind g.0 h.0)
+  one_tree T at (object p ms) (null q) g h = cc (one_kind g.0 h.0)
+  one_tree T at (object p ms) (scalar q u) g h = absurd ((scalar_apart u).3 (sym (one_kind g.0 h.0)))
+  one_tree T at (object p ms) (variable q m) g h = cc (one_kind g.0 h.0)
+  one_tree T at (object p ms) (list q ys) g h = cc (one_kind g.0 h.0)
   one_tree T at (object p ms) (object q ns) g h = ap (λ k. object k ms) (sym g.0.says.place ∙ h.0.says.place) ∙ ap (object q) (one_mems T (at + 1) _ ms ns g.1 h.1)
 
   one_all : (T : Table) (i j : ℕ) (xs ys : Raws) → StandsAll T i j xs → StandsAll T i j ys → xs ≡ ys

@@ -9,12 +9,12 @@ pub mod fault;
 mod tests;
 
 use fault::MakeFault;
+use reader::literal;
 use schema::definition::Schema;
 use schema::operation::Operation;
 use schema::types::Base;
 use schema::{definition, operation};
 use source::raw::Source;
-use source::tree;
 use std::alloc::Global;
 use text::fault::Fault;
 
@@ -38,10 +38,10 @@ pub fn make_operation<'a>(
     ensures { IfOk result (λ o. vec_len o.variables ≤ 64) }
 {
     let operation = operation::read_operation(heap, schema, text)?;
-    let repeated = tree::sooner(
-        repeated_variable(&operation),
-        operation.tree.repeated_member(),
-    );
+    let repeated = repeated_variable(&operation)
+        .into_iter()
+        .chain(literal::repeated_member(&operation.tree))
+        .min();
     if let Some(place) = repeated {
         return Err(MakeFault::Text(Fault::RepeatedName(place)));
     }

@@ -23,6 +23,6 @@ returns c text cs e w =
     let after = vec_items c.decode.new.out in
     let l : c.len-from.result ≡ length before = c.len-from.ensures ∙ c.args.pool.now.ok.0 in
     let m : c.len.result ≡ length after = c.len.ensures ∙ c.decode.new.out.ok.0 in
-    let q = pool_part text before (encodes a.chars) after c.of_pool.result a.added (c.of_pool.ensures ∙ (λ i. record { start = l i; end = m i; pooled = mathlib.Core.Bool.true })) in
+    let q = pool_part text before (encodes a.chars) after c.len-from.result c.len.result a.added l m in
     let same : a.chars ≡ cs = a.only cs (subst (λ x. Chars c.args.language x cs) (sym e) (subst (Chars c.args.language _) w.same w.scanned.inside)) in
     record { fits = q.0; is = q.1 ∙ ap encodes same; more = encodes a.chars; grown = a.added }

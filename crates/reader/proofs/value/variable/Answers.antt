@@ -10,7 +10,6 @@ use Rattle.reader.specs.Tokens.{sees, blind}
 use Rattle.reader.specs.Reading.{as_variable, fails, Reads, r_variable}
 use Rattle.reader.proofs.Beginning.{holds_as}
 use Rattle.reader.proofs.Growing.{blames_all, leaf_added}
-use Rattle.reader.proofs.Leaves.{text_part}
 use Rattle.reader.proofs.Tables.{Pushed, pushed_node, leaf_head}
 use Rattle.reader.proofs.TokenKinds.{no_variable}
 use Rattle.reader.proofs.value.variable.Goals as goal
@@ -33,17 +32,15 @@ returns c d i name room o =
     let l = c.in_ok-lexeme.lexeme in
     let w = c.in-Name.field-0 in
     let h = holds_as k.lexed (Name w) c.in-Name.is in
-    let T = table_of c.args.text.now c.args.nodes.now in
-    let q = text_part T.text T.pool l.start l.end c.of_text.result c.of_text.ensures k.lexed.ordered k.lexed.within in
-    let p : Pushed T (table_of c.args.text.now c.add.new.self) _ = record { text = refl; pool = ap vec_items c.in_ok-add.ensures.pool; nodes = c.in_ok-add.ensures.told } in
-    let says : Says T _ (variable o.start w.now) = record {
+    let p : Pushed (table_of c.args.text.now c.args.nodes.now) (table_of c.args.text.now c.add.new.self) _ = record { text = refl; pool = ap vec_items c.in_ok-add.ensures.pool; nodes = c.in_ok-add.ensures.told } in
+    let says : Says (table_of c.args.text.now c.args.nodes.now) _ (variable o.start w.now) = record {
       kind = o.says.kind;
       place = o.place;
       flag = o.says.flag;
       negative = o.says.negative;
       exponent = o.says.exponent;
-      fits = q.0;
-      text = q.1 ∙ sym h.1;
+      fits = (k.lexed.ordered, k.lexed.within);
+      text = sym h.1;
     } in
     leaf_added (variable o.start w.now) _ _
     (r_variable {v = sees l.start l.end k.lexed.token} o.seen room k.seen (ap (λ (x : Lexical). as_variable o.start (sees l.start l.end x)) h.0))
