@@ -8,27 +8,12 @@ use Rattle.model.specs.Coercion.{member}
 use Rattle.model.specs.Limits.{RawLimits, RawLimitsAll, RawLimitsMems}
 use Rattle.source.specs.declared.raw.Span.{Span}
 use Rattle.source.specs.Nodes.{node_at}
-use Rattle.source.specs.Table.{Table, Says, Head, Named, Stands, StandsAll, StandsMems, Held, HeldAll, HeldMems, past_of}
+use Rattle.source.specs.Table.{Table, Says, Named, StandsAll, StandsMems, Held, HeldAll, HeldMems, past_of}
 use Rattle.source.specs.Standing.{LeadsItems, LeadsMembers, Found}
-
-pub head_of : (T : Table) (at : ℕ) (t : Raw) → Stands T at t → Head T at t
-head_of T at (null p) h = h.0
-head_of T at (scalar p s) h = h.0
-head_of T at (variable p n) h = h.0
-head_of T at (list p xs) h = h.0
-head_of T at (object p ms) h = h.0
+use Rattle.source.specs.OneTree.{head_of, forward_all, forward_mems}
 
 pub says_of : {T : Table} {at : ℕ} {t : Raw} → Held T at t → Says T (node_at T.nodes at) t
 says_of {T} {at} {t} h = (head_of T at t h.stands).says
-
--- what stands in a span ends no sooner than it begins
-pub forward_all : (T : Table) (i j : ℕ) (xs : Raws) → StandsAll T i j xs → i ≤ j
-forward_all T i j nil h = omega (arith, h)
-forward_all T i j (cons x xs) h = omega (arith, (head_of T i x h.0).some, forward_all T (past_of T.nodes i) j xs h.1)
-
-pub forward_mems : (T : Table) (i j : ℕ) (ms : Mems) → StandsMems T i j ms → i ≤ j
-forward_mems T i j end h = omega (arith, h)
-forward_mems T i j (mem n x ms) h = omega (arith, (head_of T i x h.1).some, forward_mems T (past_of T.nodes i) j ms h.2)
 
 -- what is within the limits at a depth is so at a lesser one
 mutual

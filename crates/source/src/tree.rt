@@ -9,7 +9,8 @@ ghost use Rattle.source.specs.Nodes.{node_at};
 ghost use Rattle.source.specs.Table.{past_of, tree_table, Held, HeldAll, HeldMems, Named};
 
 use crate::nodes::Nodes;
-use crate::raw::{Kind, Span};
+use crate::raw::{Kind, Source, Span};
+use crate::value::Literal;
 use names::part::{Holder, Part};
 use text::decimal::Scale;
 
@@ -114,5 +115,26 @@ impl<'a> Tree<'a> {
     pub fn holds_variable(&self, at: usize) -> bool {
         let past = at.saturating_add(self.nodes.get(at).size);
         (at..past).any(|below| self.kind(below) == Kind::Variable)
+    }
+
+    // The place of the object's first member whose name an earlier member has.
+    fn repeated_in(&self, object: usize) -> Option<usize> {
+        let literal = Literal::new(self, object);
+        let mut span = self.inside(object);
+        while let Some((at, rest)) = self.next(span) {
+            if literal.member(object, self.name(at)) != Some(at) {
+                return Some(self.nodes.get(at).name.start());
+            }
+            span = rest;
+        }
+        None
+    }
+
+    // The least place of a member's name that an earlier member of the same object has.
+    pub fn repeated_member(&self) -> Option<usize> {
+        (0..self.nodes.list.len())
+            .filter(|at| self.kind(*at) == Kind::Object)
+            .filter_map(|object| self.repeated_in(object))
+            .min()
     }
 }

@@ -9,7 +9,6 @@ pub mod fault;
 mod tests;
 
 use fault::MakeFault;
-use reader::literal;
 use schema::definition::Schema;
 use schema::operation::Operation;
 use schema::types::Base;
@@ -40,7 +39,7 @@ pub fn make_operation<'a>(
     let operation = operation::read_operation(heap, schema, text)?;
     let repeated = repeated_variable(&operation)
         .into_iter()
-        .chain(literal::repeated_member(&operation.tree))
+        .chain(operation.tree.repeated_member())
         .min();
     if let Some(place) = repeated {
         return Err(MakeFault::Text(Fault::RepeatedName(place)));

@@ -1,11 +1,26 @@
 -- One tree at most stands at a cursor.
-use Rattle.std.proofs.Common.{◌≡◌, ◌≢◌, ℕ, ◌+◌, sym, refl, ap, ◌∙◌, arith}
+use Rattle.std.proofs.Common.{◌≡◌, ◌≢◌, ℕ, ◌+◌, ◌≤◌, sym, refl, ap, ◌∙◌, arith}
 use Rattle.model.specs.Values.{Dec, Scalar, boolean, whole, decimal, string, symbol, Raw, Raws, Mems, null, scalar, variable, list, object, nil, cons, end, mem}
 use Rattle.source.specs.declared.raw.Kind.TheVariants.{Null, Variable, List as ListKind, Object}
 use Rattle.source.specs.Heads.{scalar_kind, scalar_flag, scalar_text, scalar_negative, scalar_exponent, kind_of}
-use Rattle.source.specs.Table.{Table, Head, Stands, StandsAll, StandsMems, Held}
+use Rattle.source.specs.Table.{Table, Head, past_of, Stands, StandsAll, StandsMems, Held}
 use Rattle.source.specs.Standing.{Lawful}
-use Rattle.source.proofs.Standings.{head_of, forward_all, forward_mems}
+
+pub head_of : (T : Table) (at : ℕ) (t : Raw) → Stands T at t → Head T at t
+head_of T at (null p) h = h.0
+head_of T at (scalar p s) h = h.0
+head_of T at (variable p n) h = h.0
+head_of T at (list p xs) h = h.0
+head_of T at (object p ms) h = h.0
+
+-- what stands in a span ends no sooner than it begins
+pub forward_all : (T : Table) (i j : ℕ) (xs : Raws) → StandsAll T i j xs → i ≤ j
+forward_all T i j nil h = omega (arith, h)
+forward_all T i j (cons x xs) h = omega (arith, (head_of T i x h.0).some, forward_all T (past_of T.nodes i) j xs h.1)
+
+pub forward_mems : (T : Table) (i j : ℕ) (ms : Mems) → StandsMems T i j ms → i ≤ j
+forward_mems T i j end h = omega (arith, h)
+forward_mems T i j (mem n x ms) h = omega (arith, (head_of T i x h.1).some, forward_mems T (past_of T.nodes i) j ms h.2)
 
 -- no scalar is of the kind of another value
 scalar_apart : (s : Scalar) → (scalar_kind s ≢ Null) × (scalar_kind s ≢ Variable) × (scalar_kind s ≢ ListKind) × (scalar_kind s ≢ Object)

@@ -12,7 +12,7 @@ use Rattle.reader.proofs.Beginning.{holds_as}
 use Rattle.reader.proofs.Growing.{blames_all, leaf_added}
 use Rattle.reader.proofs.Tables.{Pushed, pushed_node, leaf_head}
 use Rattle.reader.proofs.TokenKinds.{no_variable}
-use Rattle.reader.proofs.value.variable.Goals as goal
+use Rattle.reader.proofs.manner.Reader.variable.Goals as goal
 
 pub returns-in_err-lexeme : goal.returns-in_err-lexeme
 returns-in_err-lexeme c d i name room o =
@@ -24,7 +24,7 @@ returns-in_default c d i name room o =
     let k = c.in_ok-lexeme.ensures in
     let l = c.in_ok-lexeme.lexeme in
     r_variable {v = sees l.start l.end k.lexed.token} o.seen room k.seen
-    (no_variable c.args.manner.language c.args.text.now l.start l.end k.lexed.token l.token o.start l.start l.end c.in_default.not-Name k.lexed.holds)
+    (no_variable c.args.self.manner.language c.args.self.text.now l.start l.end k.lexed.token l.token o.start l.start l.end c.in_default.not-Name k.lexed.holds)
 
 pub returns : goal.returns
 returns c d i name room o =
@@ -32,8 +32,8 @@ returns c d i name room o =
     let l = c.in_ok-lexeme.lexeme in
     let w = c.in-Name.field-0 in
     let h = holds_as k.lexed (Name w) c.in-Name.is in
-    let p : Pushed (table_of c.args.text.now c.args.nodes.now) (table_of c.args.text.now c.add.new.self) _ = record { text = refl; pool = ap vec_items c.in_ok-add.ensures.pool; nodes = c.in_ok-add.ensures.told } in
-    let says : Says (table_of c.args.text.now c.args.nodes.now) _ (variable o.start w.now) = record {
+    let p : Pushed (table_of c.args.self.text.now c.args.nodes.now) (table_of c.args.self.text.now c.add.new.self) _ = record { text = refl; pool = ap vec_items c.in_ok-add.ensures.pool; nodes = c.in_ok-add.ensures.told } in
+    let says : Says (table_of c.args.self.text.now c.args.nodes.now) _ (variable o.start w.now) = record {
       kind = o.says.kind;
       place = o.place;
       flag = o.says.flag;

@@ -11,13 +11,13 @@ use Rattle.reader.specs.Reading.{starts_leaf, starts_list, starts_object, starts
 use Rattle.reader.proofs.RdSights.{token_numeral}
 use Rattle.reader.proofs.Leaves.{node_for, bare_node}
 use Rattle.reader.proofs.Beginning.{holds_as, start_node, leaf_start, leaf_told, no_memory, no_start, other_of}
-use Rattle.reader.proofs.begin.node_of.Goals as goal
+use Rattle.reader.proofs.manner.Reader.node_of.Goals as goal
 
 pub decimal_node-requires : goal.decimal_node-requires
 decimal_node-requires c =
     let k = c.requires.1 in
     let h = holds_as k (Decimal c.in-Decimal.spelled) c.in-Decimal.is in
-    token_numeral c.args.language _ _ _ _ (subst (λ (x : Lexical). TokenOf c.args.language (drop c.args.lexeme.start c.requires.0) x (drop c.args.lexeme.end c.requires.0)) h.0 k.reads)
+    token_numeral c.args.self.manner.language _ _ _ _ (subst (λ (x : Lexical). TokenOf c.args.self.manner.language (drop c.args.lexeme.start c.requires.0) x (drop c.args.lexeme.end c.requires.0)) h.0 k.reads)
 
 pub returns-in_err-text-in-Text : goal.returns-in_err-text-in-Text
 returns-in_err-text-in-Text c text k =
@@ -73,4 +73,4 @@ returns-in_ok-text-in-Text c text k =
     p.fits p.is p.more p.grown)
 
 pub returns-in_default : goal.returns-in_default
-returns-in_default c text k = (refl, no_start c.args.language text c.args.lexeme.start c.args.lexeme.end _ k.token c.args.lexeme.token (other_of _ c.in_default.not-Dollar c.in_default.not-OpenBracket c.in_default.not-OpenBrace c.in_default.not-Name c.in_default.not-Whole c.in_default.not-Decimal c.in_default.not-Text) k.holds)
+returns-in_default c text k = (refl, no_start c.args.self.manner.language text c.args.lexeme.start c.args.lexeme.end _ k.token c.args.lexeme.token (other_of _ c.in_default.not-Dollar c.in_default.not-OpenBracket c.in_default.not-OpenBrace c.in_default.not-Name c.in_default.not-Whole c.in_default.not-Decimal c.in_default.not-Text) k.holds)
