@@ -12,7 +12,7 @@ use Rattle.source.specs.declared.nodes.Node.{Node}
 use Rattle.source.specs.Nodes.{node_at}
 use Rattle.source.specs.Table.{Table, Says, Named, Stands, StandsAll, StandsMems, Keeps, past_of}
 use Rattle.source.proofs.Keeping.{keeps_all, keeps_on, says_kept, stands_kept, all_kept, mems_kept, past_kept, named_kept, fits_kept, bytes_kept}
-use Rattle.source.proofs.Standings.{head_of}
+use Rattle.source.specs.OneTree.{head_of}
 use Rattle.reader.specs.declared.manner.Manner.{Manner}
 use Rattle.reader.specs.Grammar.{Leaf, l_null, l_true, l_false, l_symbol, l_whole, l_decimal, l_string}
 use Rattle.reader.specs.Tokens.{Sight, sees, Sights}

@@ -11,7 +11,8 @@ use coercion::fault::{Spot, ValueFault};
 use coercion::frames::Pile;
 use coercion::rule::ScalarRule;
 use coercion::walk::Walk;
-use reader::json::{Json, read_json};
+use reader::document;
+use reader::document::JsonText;
 use record::working::Working;
 use schema::definition::Schema;
 use schema::operation::{Operation, Variable};
@@ -21,8 +22,8 @@ use std::alloc::Global;
 const NOWHERE: Extent = Extent { start: 0, size: 0 };
 
 // The values that a JSON text writes.
-fn read(heap: Global, text: &[u8]) -> Result<Json<'_>, ValueFault> {
-    Ok(read_json(heap, text)?)
+fn read(heap: Global, text: &[u8]) -> Result<JsonText<'_>, ValueFault> {
+    Ok(document::read(heap, text)?)
 }
 
 // The cursor of the object that holds the variables' values.
@@ -233,7 +234,7 @@ impl<'a, 's, 'b, 'o, R: ScalarRule> Sheet<'a, 's, 'b, 'o, R> {
         ensures accepted { IfOk result (λ n. (self.new.contents.length ≡ n) × (self.new.contents.loaded ≡ true) × Replaced self.new.bytes.items n) }
     {
         let json = read(heap, text)?;
-        self.load(&json)
+        self.load(&json.value())
     }
 
     // Replaces what the sheet holds by the values of a request, and tells how many bytes they take.

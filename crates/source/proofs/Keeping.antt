@@ -7,7 +7,7 @@ use Rattle.names.proofs.Growth.{fits_pool, bytes_pool}
 use Rattle.source.specs.declared.nodes.Node.{Node}
 use Rattle.source.specs.Nodes.{node_at}
 use Rattle.source.specs.Table.{Table, Says, Head, Named, Stands, StandsAll, StandsMems, Keeps, past_of}
-use Rattle.source.proofs.Standings.{head_of}
+use Rattle.source.specs.OneTree.{head_of}
 
 pub keeps_all : (T : Table) → Keeps 0 T T
 keeps_all T = record { text = refl; more = []; pool = sym (append-nil T.pool); grows = omega arith; nodes = λ i k l. refl }

@@ -6,8 +6,7 @@ use Rattle.text.specs.declared.fault.Fault.TheVariants.{BadText, TooDeep, NoSpac
 use Rattle.model.specs.Values.{Rec, Recs, Rmems, r_list, r_object, r_nil, r_cons, r_end, r_mem, has}
 use Rattle.model.specs.Limits.{NameLimits}
 use Rattle.names.specs.declared.names.Link.{Link}
-use Rattle.names.specs.declared.part.Part.{Part}
-use Rattle.names.specs.Parts.{PartFits, bytes_of}
+use Rattle.names.specs.declared.part.Part.TheVariants.{Text}
 use Rattle.names.specs.Index.{Sound, AddTold, names_of, names_from}
 use Rattle.names.proofs.Growth.{sound_none}
 use Rattle.stored.specs.declared.header.Frame.{Frame}
@@ -40,11 +39,9 @@ not_formed f d e n a = untrue (sym e ∙ d.1 (subst NameLimits (sym (one_framed 
 pub name_at : {bytes : List ℕ} {i to : ℕ} {h : Frame} {r : Bool} → FrameAt bytes i to h → h.kind ≡ 8 → Decides r (NameLimits (body_in bytes h)) → r ≡ true → NameAt bytes i to (body_in bytes h)
 name_at {bytes} {i} {to} {h} f k d t = record { framed = subst (λ n. Framed bytes i to n (body_in bytes h)) k f.framed; within = d.0 t }
 
-pub has_it : (bytes : List ℕ) (base : ℕ) (before after : List Link) (p : Part) (h : Frame) (b : Bool) → p ≡ record { start = h.from; end = h.end; pooled = false } → b ≡ false → AddTold bytes [] base before after p (Ok b) → h.from ≤ h.end → h.end ≤ length bytes → Sound bytes [] before base → has (names_from bytes [] before base) (body_in bytes h) ≡ true
-has_it bytes base before after p h true e f t l m s = absurd (untrue (sym f))
-has_it bytes base before after p h false e f t l m s =
-    let fits : PartFits bytes [] p = rw e (l, m) in
-    subst (λ q. has (names_from bytes [] before base) (bytes_of bytes [] q) ≡ true) e (t.1 fits s)
+pub has_it : (bytes : List ℕ) (base : ℕ) (before after : List Link) (h : Frame) (b : Bool) → b ≡ false → AddTold bytes [] base before after (Text h.from h.end) (Ok b) → h.from ≤ h.end → h.end ≤ length bytes → Sound bytes [] before base → has (names_from bytes [] before base) (body_in bytes h) ≡ true
+has_it bytes base before after h true f t l m s = absurd (untrue (sym f))
+has_it bytes base before after h false f t l m s = t.1 (l, m) s
 
 -- VALUES
 

@@ -6,7 +6,7 @@ ghost use Rattle.stored.specs.Told.{ValueTold, ItemsTold, MembersTold, NameTold}
 use crate::content::{Content, holds, name_form};
 use crate::header::{Frame, NAME, header};
 use names::names::Names;
-use names::part::Part;
+use names::part::{Holder, Part};
 use text::fault::Fault;
 
 // The value whose record stands at `at` and ends no later than `to`, with `levels` left for it and what is inside
@@ -96,7 +96,11 @@ fn member_name(
     if kind != NAME || !name_form(&bytes[from..end]) {
         return Err(Fault::BadText(at));
     }
-    let added = names.add(base, bytes, &[], Part::of_text(from, end))?;
+    let holder = Holder {
+        text: bytes,
+        pool: &[],
+    };
+    let added = names.add(base, holder, Part::Text { start: from, end })?;
     if !added {
         return Err(Fault::RepeatedName(at));
     }

@@ -14,7 +14,6 @@ use schema::operation::Operation;
 use schema::types::Base;
 use schema::{definition, operation};
 use source::raw::Source;
-use source::tree;
 use std::alloc::Global;
 use text::fault::Fault;
 
@@ -38,10 +37,10 @@ pub fn make_operation<'a>(
     ensures { IfOk result (λ o. vec_len o.variables ≤ 64) }
 {
     let operation = operation::read_operation(heap, schema, text)?;
-    let repeated = tree::sooner(
-        repeated_variable(&operation),
-        operation.tree.repeated_member(),
-    );
+    let repeated = repeated_variable(&operation)
+        .into_iter()
+        .chain(operation.tree.repeated_member())
+        .min();
     if let Some(place) = repeated {
         return Err(MakeFault::Text(Fault::RepeatedName(place)));
     }

@@ -1,8 +1,9 @@
 // What is refused, by number and place.
 use crate::{make_operation, make_schema};
-use reader::json::read_json;
+use reader::document::{self, JsonText};
 use schema::definition::Schema;
 use std::alloc::Global;
+use text::fault::Fault;
 
 // The number and the place of a schema's refusal; none where it is made.
 fn schema_refusal(heap: Global, text: &[u8]) -> Option<(u8, usize)> {
@@ -87,7 +88,8 @@ fn bad_defaults(rt: HostRuntime) {
 
 // The number and the place of a JSON text's refusal; none where it is read.
 fn json_refusal(heap: Global, text: &[u8]) -> Option<(u8, usize)> {
-    match read_json(heap, text) {
+    let read: Result<JsonText<'_>, Fault> = document::read(heap, text);
+    match read {
         Ok(_) => None,
         Err(fault) => Some((fault.number(), fault.place())),
     }

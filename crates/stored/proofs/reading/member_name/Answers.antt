@@ -19,4 +19,4 @@ pub returns-then-not-added : goal.returns-then-not-added
 returns-then-not-added c d h =
     let f = c.in-Some.ensures in
     m_repeated h (name_at f c.if-kind-ne-NAME.false c.name_form.ensures c.if-not-name_form.false)
-    (has_it c.args.bytes.now c.args.base (vec_items c.args.names.now.links) (vec_items c.add.new.self.links) c.of_text.result c.in-Some.frame c.in_ok-added.added c.of_text.ensures c.if-not-added.true c.in_ok-added.ensures f.forward f.inside c.requires.sound)
+    (has_it c.args.bytes.now c.args.base (vec_items c.args.names.now.links) (vec_items c.add.new.self.links) c.in-Some.frame c.in_ok-added.added c.if-not-added.true c.in_ok-added.ensures f.forward f.inside c.requires.sound)
