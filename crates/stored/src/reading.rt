@@ -4,7 +4,7 @@ ghost use Rattle.names.specs.Index.{Sound};
 ghost use Rattle.stored.specs.Told.{ValueTold, ItemsTold, MembersTold, NameTold};
 
 use crate::content::{Content, holds, name_form};
-use crate::header::{Frame, NAME, header};
+use crate::header::header;
 use names::names::Names;
 use names::part::Part;
 use text::fault::Fault;
@@ -21,19 +21,20 @@ fn value(
 ) -> Result<usize, Fault>
     ensures { ValueTold bytes.now levels at to names.old.links.items names.new.links.items result }
 {
-    let Some(frame) = header(bytes, at, to) else {
-        return Err(Fault::BadText(at));
+    let frame = header(bytes, at, to).ok_or(Fault::BadText(at))?;
+    let content = match holds(frame.kind, frame.body(bytes)) {
+        Ok(content) => content,
+        Err(error) => return Err(error.at(at)),
     };
-    let Frame { kind, from, end } = frame;
-    match holds(kind, &bytes[from..end]) {
-        Content::Bad => return Err(Fault::BadText(at)),
-        Content::Long => return Err(Fault::LongNumber(at)),
-        _ if levels == 0 => return Err(Fault::TooDeep(at)),
-        Content::Leaf => {}
-        Content::List => items(bytes, from, end, levels - 1, names)?,
-        Content::Object => members(bytes, from, end, levels - 1, names)?,
+    if levels == 0 {
+        return Err(Fault::TooDeep(at));
     }
-    Ok(end)
+    match content {
+        Content::Leaf => {}
+        Content::List => items(bytes, frame.from, frame.end, levels - 1, names)?,
+        Content::Object => members(bytes, frame.from, frame.end, levels - 1, names)?,
+    }
+    Ok(frame.end)
 }
 
 // The items of a list from `from` to `to`.
@@ -89,16 +90,13 @@ fn member_name(
     requires below { base ≤ length names.old.links.items }
     ensures { NameTold bytes.now at to base names.old.links.items names.new.links.items result }
 {
-    let Some(frame) = header(bytes, at, to) else {
-        return Err(Fault::BadText(at));
-    };
-    let Frame { kind, from, end } = frame;
-    if kind != NAME || !name_form(&bytes[from..end]) {
+    let frame = header(bytes, at, to).ok_or(Fault::BadText(at))?;
+    if !frame.is_name() || !name_form(frame.body(bytes)) {
         return Err(Fault::BadText(at));
     }
-    let added = names.add(base, bytes, &[], Part::of_text(from, end))?;
+    let added = names.add(base, bytes, &[], Part::of_text(frame.from, frame.end))?;
     if !added {
         return Err(Fault::RepeatedName(at));
     }
-    Ok(end)
+    Ok(frame.end)
 }

@@ -1,7 +1,8 @@
-use Rattle.std.proofs.Common.{vec_items, refl, ◌∙◌, arith}
+use Rattle.std.proofs.Common.{Ok, vec_items, subst, refl, ap, ◌∙◌, arith}
 use Rattle.std.proofs.lemmas.Result.{err_from_is_err_and}
-use Rattle.stored.specs.Outcomes.{r_none, r_bad, r_long, r_deep}
-use Rattle.stored.proofs.RdSteps.{sensible, leaf_read, list_read, object_read, list_blamed, object_blamed, items_start, items_step, items_blamed, items_ended, members_start, members_step, name_blamed, members_blamed, members_ended}
+use Rattle.stored.specs.Frames.{FrameTold}
+use Rattle.stored.specs.Outcomes.{r_none, r_deep}
+use Rattle.stored.proofs.RdSteps.{ok_or_none, unfit, content_told, sensible, leaf_read, list_read, object_read, list_blamed, object_blamed, items_start, items_step, items_blamed, items_ended, members_start, members_step, name_blamed, members_blamed, members_ended}
 use Rattle.stored.proofs.reading.+items_members_value.Goals as goal
 
 pub items-returns-in_err-next : goal.items-returns-in_err-next
@@ -37,33 +38,49 @@ members-loop-next-preserved t c = members_step c.loop-next.invariant c.loop-next
 pub members-returns : goal.members-returns
 members-returns t c = (members_ended c.loop-next.invariant c.loop-next-test.false, c.close.ensures ∙ c.loop-next.invariant.below)
 
-pub value-returns-in_default : goal.value-returns-in_default
-value-returns-in_default t c = r_none c.in_default.ensures
+pub value-returns-in_err-frame : goal.value-returns-in_err-frame
+value-returns-in_err-frame t c =
+    let p = err_from_is_err_and c.from_residual.result c.from_residual.ensures.1 in
+    let e = c.in_err-frame.ensures in
+    rw (p.1, p.2, ok_or_none e.value e.ok_part) (r_none (subst (FrameTold c.args.bytes.now c.args.at c.args.to) e.ok_part c.header.ensures))
 
-pub value-returns-in_default-holds : goal.value-returns-in_default-holds
-value-returns-in_default-holds t c = r_deep c.in-Some.ensures.framed (sensible _ _ c.holds.result c.holds.ensures c.in_default-holds.not-Bad c.in_default-holds.not-Long) c.if-levels-eq0.true
+pub value-returns-in-Err : goal.value-returns-in-Err
+value-returns-in-Err t c =
+    let f = subst (FrameTold c.args.bytes.now c.args.at c.args.to) c.in_ok-frame.ensures.ok_part c.header.ensures in
+    rw c.at.ensures (unfit c.args.levels c.in-Err.error f (content_told _ _ c.in-Err.is c.body.ensures c.holds.ensures))
+
+pub value-returns-then-levels-eq0 : goal.value-returns-then-levels-eq0
+value-returns-then-levels-eq0 t c =
+    let f = subst (FrameTold c.args.bytes.now c.args.at c.args.to) c.in_ok-frame.ensures.ok_part c.header.ensures in
+    r_deep f.framed (sensible _ _ c.in-Ok.content (content_told _ _ c.in-Ok.is c.body.ensures c.holds.ensures)) c.if-levels-eq0.true
 
 pub value-returns-in_err-items-in-List : goal.value-returns-in_err-items-in-List
 value-returns-in_err-items-in-List t c =
-    let p = err_from_is_err_and c.from_residual.result c.from_residual.ensures.1 in
-    rw (p.1, p.2) (list_blamed c.in-Some.ensures (omega arith) c.in-List.ensures _ c.in_err-items-in-List.ensures)
+    let f = subst (FrameTold c.args.bytes.now c.args.at c.args.to) c.in_ok-frame.ensures.ok_part c.header.ensures in
+    let k = content_told _ _ (c.in-Ok.is ∙ ap Ok c.in-List.is) refl c.holds.ensures in
+    let p = err_from_is_err_and c.from_residual-in_err-items-in-List.result c.from_residual-in_err-items-in-List.ensures.1 in
+    rw (p.1, p.2) (list_blamed f (omega arith) k _ c.in_err-items-in-List.ensures)
 
 pub value-returns-in_err-members-in-Object : goal.value-returns-in_err-members-in-Object
 value-returns-in_err-members-in-Object t c =
+    let f = subst (FrameTold c.args.bytes.now c.args.at c.args.to) c.in_ok-frame.ensures.ok_part c.header.ensures in
+    let k = content_told _ _ (c.in-Ok.is ∙ ap Ok c.in-Object.is) refl c.holds.ensures in
     let p = err_from_is_err_and c.from_residual-in_err-members-in-Object.result c.from_residual-in_err-members-in-Object.ensures.1 in
-    rw (p.1, p.2) (object_blamed c.in-Some.ensures (omega arith) c.in-Object.ensures _ c.in_err-members-in-Object.ensures)
-
-pub value-returns-in-Long : goal.value-returns-in-Long
-value-returns-in-Long t c = r_long c.in-Some.ensures.framed c.in-Long.ensures
-
-pub value-returns-in-Bad : goal.value-returns-in-Bad
-value-returns-in-Bad t c = r_bad c.in-Some.ensures.framed c.in-Bad.ensures
+    rw (p.1, p.2) (object_blamed f (omega arith) k _ c.in_err-members-in-Object.ensures)
 
 pub value-returns-in-Leaf : goal.value-returns-in-Leaf
-value-returns-in-Leaf t c = (leaf_read c.in-Some.ensures (omega arith) c.in-Leaf.ensures, refl)
+value-returns-in-Leaf t c =
+    let f = subst (FrameTold c.args.bytes.now c.args.at c.args.to) c.in_ok-frame.ensures.ok_part c.header.ensures in
+    (leaf_read f (omega arith) (content_told _ _ (c.in-Ok.is ∙ ap Ok c.in-Leaf.is) c.body.ensures c.holds.ensures), refl)
 
 pub value-returns-in_ok-items-in-List : goal.value-returns-in_ok-items-in-List
-value-returns-in_ok-items-in-List t c = (list_read c.in-Some.ensures (omega arith) c.in-List.ensures c.in_ok-items-in-List.ensures.0, c.in_ok-items-in-List.ensures.1)
+value-returns-in_ok-items-in-List t c =
+    let f = subst (FrameTold c.args.bytes.now c.args.at c.args.to) c.in_ok-frame.ensures.ok_part c.header.ensures in
+    let k = content_told _ _ (c.in-Ok.is ∙ ap Ok c.in-List.is) refl c.holds.ensures in
+    (list_read f (omega arith) k c.in_ok-items-in-List.ensures.0, c.in_ok-items-in-List.ensures.1)
 
 pub value-returns-in_ok-members-in-Object : goal.value-returns-in_ok-members-in-Object
-value-returns-in_ok-members-in-Object t c = (object_read c.in-Some.ensures (omega arith) c.in-Object.ensures c.in_ok-members-in-Object.ensures.0, c.in_ok-members-in-Object.ensures.1)
+value-returns-in_ok-members-in-Object t c =
+    let f = subst (FrameTold c.args.bytes.now c.args.at c.args.to) c.in_ok-frame.ensures.ok_part c.header.ensures in
+    let k = content_told _ _ (c.in-Ok.is ∙ ap Ok c.in-Object.is) refl c.holds.ensures in
+    (object_read f (omega arith) k c.in_ok-members-in-Object.ensures.0, c.in_ok-members-in-Object.ensures.1)
