@@ -12,7 +12,7 @@ ghost use Rattle.stored.specs.Laws.{StoredTold, ReadsOnce, ReadsBack, AcceptsBac
 ghost use Rattle.stored.specs.OneTree.{lawful};
 
 use crate::header::{Frame, header};
-use crate::reading::members;
+use crate::reading::Reader;
 use names::names::Names;
 use record::kind::{RecordKind, SCALE};
 use source::limits::DEEPEST;
@@ -250,8 +250,11 @@ pub fn read_stored(heap: Global, bytes: &[u8]) -> Result<Stored<'_>, Fault>
     if bytes.len() > LONGEST_SHEET {
         return Err(Fault::BadText(0));
     }
-    let mut names = Names::new(heap);
-    members(bytes, 0, bytes.len(), DEEPEST, &mut names)?;
+    let mut reader = Reader {
+        bytes,
+        names: Names::new(heap),
+    };
+    reader.members(0, bytes.len(), DEEPEST)?;
     Ok(Stored { bytes })
 }
 
