@@ -3,4 +3,5 @@
 
 pub mod body;
 pub mod hex;
+pub mod kind;
 pub mod working;

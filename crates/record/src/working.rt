@@ -1,15 +1,11 @@
 // The bytes that a call works in, and the records that are written into them.
 ghost use Rattle.std.specs.Prelude.{◌≡◌, ℕ, ◌+◌, ◌-◌, ◌^◌, ◌<◌, ◌≤◌, min, [], ◌∷◌, ◌++◌, length, replicate, MatchOption};
+ghost use Rattle.record.specs.Kinds.{number_of};
 ghost use Rattle.record.specs.Records.{kind_of, opened, scale, header, named, patched};
 ghost use Rattle.record.specs.Held.{written, size, Kept, Begun, NoRoom};
 
 use crate::body::Body;
-
-// The bytes of a record's header.
-pub const HEADER: usize = 6;
-
-// The kind of the record of a member's name.
-const MEMBER_NAME: u8 = 8;
+use crate::kind::{HEADER, RecordKind};
 
 // Working bytes, of which the first `used` are written. They are cleared on every way out.
 pub struct Working<'a> {
@@ -52,16 +48,16 @@ impl Working<'_> {
     }
 
     // Writes a header.
-    fn put_header(&mut self, count: usize, kind: u8)
+    fn put_header(&mut self, count: usize, kind: RecordKind)
         requires room { self.old.used + 6 ≤ size self.old }
         requires short { count < 2 ^ 32 }
-        ensures items { written self.new ≡ written self.old ++ header count kind }
+        ensures items { written self.new ≡ written self.old ++ header count (number_of kind) }
         ensures kept { Kept self.old self.new }
         ensures used { self.new.used ≡ self.old.used + 6 }
         ensures same { self.new.bytes.ghost_name ≡ self.old.bytes.ghost_name }
     {
         let [a, b, c, d] = (count as u32).to_le_bytes();
-        self.put(&[a, b, c, d, kind, 0]);
+        self.put(&[a, b, c, d, u8::from(kind), 0]);
     }
 
     // Writes the record of a member's name, if there is one.
@@ -75,7 +71,7 @@ impl Working<'_> {
         ensures same { self.new.bytes.ghost_name ≡ self.old.bytes.ghost_name }
     {
         if let Some(name) = name {
-            self.put_header(name.len(), MEMBER_NAME);
+            self.put_header(name.len(), RecordKind::Name);
             self.put(name);
         }
     }

@@ -1,20 +1,25 @@
 -- What a value says of itself, by the kind and the body of its record.
-use Rattle.std.proofs.Common.{◌≡◌, ℕ, suc, ◌+◌, ◌-◌, ◌*◌, ◌^◌, ◌<◌, Bool, true, false, eqb, ◌≢◌, ◌⊎◌, List, [], ◌∷◌, length, get_or, take, drop, ℤ, pos, negsuc, Decides, sym, refl, ap, ◌∙◌, subst, ⊎_elim, arith, w32, to_z}
+use Rattle.std.proofs.Common.{◌≡◌, ℕ, suc, ◌+◌, ◌-◌, ◌*◌, ◌^◌, ◌<◌, Bool, true, false, eqb, ◌≢◌, ◌⊎◌, List, [], ◌∷◌, length, get_or, take, drop, ℤ, pos, negsuc, Some, None, Option, MatchOption, Decides, sym, refl, ap, ◌∙◌, subst, ⊎_elim, arith, w32, to_z}
 use Rattle.std.proofs.lemmas.List.{take_all}
 use Rattle.std.proofs.lemmas.Int.{ints, to_z-of_z}
-use Rattle.text.specs.Cuts.{part}
 use Rattle.text.specs.declared.decimal.Scale.{Scale}
 use Rattle.model.specs.Values.{p_boolean, p_whole, p_decimal, p_string, Rec, r_null, r_plain, r_list, r_object, Raw, place_of}
 use Rattle.model.specs.Records.{kind, twos, truth, ExponentFits}
 use Rattle.source.specs.Heads.{kind_of, flag_of, text_of}
 use Rattle.source.specs.Standing.{Scaled}
+use Rattle.record.specs.Kinds.{number_of}
 use Rattle.stored.specs.declared.stored.Target.{Target}
-use Rattle.stored.specs.Cursors.{shown, Held, Points, OfRecord, kind_for_lem}
+use Rattle.stored.specs.Cursors.{shown, Held, Follows, FollowTold, OfRecord, kind_for_lem}
 use Rattle.stored.proofs.FrLaws.{digits}
 
 -- what holds of each value that the record shows holds of the one at the cursor
-pub held_of : (P : Raw → Type 0) (bytes : List ℕ) (at : ℕ) (t : Raw) (h : Target) (x : Held bytes at t) → Points bytes x.place x.from x.value h → OfRecord P h.kind (part bytes h.from h.end) → P t
-held_of P bytes at t h x p o = subst P x.shows (o x.place x.from x.depth x.value (sym p.kinds) (sym p.bodies) x.within)
+pub held_of : (P : Raw → Type 0) {bytes : List ℕ} {at : ℕ} {t : Raw} {h : Target} (x : Held bytes at t) → Follows bytes at h → OfRecord P (number_of h.kind) h.body.now → P t
+held_of P x f o = let p = f.points x.place x.from x.value x.leads in subst P x.shows (o x.place x.from x.depth x.value (sym p.kinds) (sym p.bodies) x.within)
+
+-- the same where no record may be found
+pub asked : (Q : Raw → Type 0) {bytes : List ℕ} {at : ℕ} {t : Raw} (o : Option Target) (N : Type 0) (P : Target → Type 0) → Held bytes at t → FollowTold bytes at o → MatchOption o N P → ((h : Target) → P h → OfRecord Q (number_of h.kind) h.body.now) → Q t
+asked Q None N P x f m g = absurd (f x.place x.from x.value x.leads)
+asked Q (Some h) N P x f m g = held_of Q x f (g h m)
 
 pub kind_of_lem : (p f : ℕ) (r : Rec) → kind_for_lem (kind r) ≡ kind_of (shown p f r)
 kind_of_lem p f r_null = refl

@@ -1,6 +1,7 @@
 -- What the turns of reading keep.
-use Rattle.std.proofs.Common.{◌≡◌, ℕ, ◌-◌, ◌<◌, ◌≤◌, Bool, true, false, ◌≢◌, List, [], ◌∷◌, ◌++◌, length, take, Ok, Decides, sym, refl, ap, ◌∙◌, subst, arith}
+use Rattle.std.proofs.Common.{◌≡◌, ℕ, ◌-◌, ◌<◌, ◌≤◌, Bool, true, false, List, [], ◌∷◌, ◌++◌, length, take, None, Option, Ok, Err, Result, Decides, sym, refl, ap, ◌∙◌, subst, arith}
 use Rattle.std.proofs.lemmas.List.{take_all, drop_all}
+use Rattle.std.specs.Option.{ok_or}
 use Rattle.text.specs.declared.fault.Fault.{Fault}
 use Rattle.text.specs.declared.fault.Fault.TheVariants.{BadText, TooDeep, NoSpace, RepeatedName, LongNumber, NoMemory}
 use Rattle.model.specs.Values.{Rec, Recs, Rmems, r_list, r_object, r_nil, r_cons, r_end, r_mem, has}
@@ -11,10 +12,12 @@ use Rattle.names.specs.Index.{Sound, AddTold, names_of, names_from}
 use Rattle.names.proofs.Growth.{sound_none}
 use Rattle.stored.specs.declared.header.Frame.{Frame}
 use Rattle.stored.specs.declared.content.Content.{Content}
-use Rattle.stored.specs.declared.content.Content.TheVariants.{Bad, Long as LongContent, Leaf, List as ListContent, Object}
+use Rattle.stored.specs.declared.content.Content.TheVariants.{Leaf, List as ListContent, Object}
+use Rattle.stored.specs.declared.content.BodyError.{BodyError}
+use Rattle.stored.specs.declared.content.BodyError.TheVariants.{BadForm, LongNumber as LongBody}
 use Rattle.stored.specs.Frames.{Framed, body_in, FrameAt}
-use Rattle.stored.specs.Contents.{IsLeaf, Sensible, a_leaf, a_list, an_object, ContentTold}
-use Rattle.stored.specs.Outcomes.{got, fails, NameAt, Unnamed, Reads, r_leaf, r_items, r_members, ReadsItems, i_end, i_fails, i_more, ReadsMembers, m_end, m_fails, m_more}
+use Rattle.stored.specs.Contents.{IsLeaf, Sensible, a_leaf, a_list, an_object, fault_at, ContentTold}
+use Rattle.stored.specs.Outcomes.{got, fails, NameAt, Unnamed, Reads, r_bad, r_long, r_leaf, r_items, r_members, ReadsItems, i_end, i_fails, i_more, ReadsMembers, m_end, m_fails, m_more}
 use Rattle.stored.specs.Told.{Blames, ValueAt, NewName}
 use Rattle.stored.specs.OneFrame.{one_framed}
 use Rattle.stored.proofs.CoForms.{untrue}
@@ -28,16 +31,20 @@ blames_on (RepeatedName k) P Q m x = m (RepeatedName k) x
 blames_on (LongNumber k) P Q m x = m (LongNumber k) x
 blames_on NoMemory P Q m x = tt
 
+-- the header that was found, or that there is none
+pub ok_or_none : {o : Option Frame} {e f : Fault} → Err e ≡ ok_or o f → o ≡ None → e ≡ f
+ok_or_none {o} {e} {f} v n = let w : ◌≡◌ {A = Result Frame Fault} (Err e) (Err f) = subst (λ x. Err e ≡ ok_or x f) n v in cc
+
 -- NAMES
 
-pub other_kind : {bytes : List ℕ} {i to : ℕ} {h : Frame} → FrameAt bytes i to h → h.kind ≢ 8 → Unnamed bytes i to
-other_kind f k n a = k (one_framed f.framed a.framed).0
+pub other_kind : {bytes : List ℕ} {i to : ℕ} {h : Frame} {r : Bool} → FrameAt bytes i to h → Decides r (h.kind ≡ 8) → r ≡ false → Unnamed bytes i to
+other_kind f d e n a = untrue (sym e ∙ d.1 (one_framed f.framed a.framed).0)
 
-pub not_formed : {bytes : List ℕ} {i to : ℕ} {h : Frame} {r : Bool} → FrameAt bytes i to h → Decides r (NameLimits (body_in bytes h)) → r ≡ false → Unnamed bytes i to
-not_formed f d e n a = untrue (sym e ∙ d.1 (subst NameLimits (sym (one_framed f.framed a.framed).1) a.within))
+pub not_formed : {bytes xs : List ℕ} {i to : ℕ} {h : Frame} {r : Bool} → FrameAt bytes i to h → xs ≡ body_in bytes h → Decides r (NameLimits xs) → r ≡ false → Unnamed bytes i to
+not_formed f x d e n a = untrue (sym e ∙ d.1 (subst NameLimits (sym (x ∙ (one_framed f.framed a.framed).1)) a.within))
 
-pub name_at : {bytes : List ℕ} {i to : ℕ} {h : Frame} {r : Bool} → FrameAt bytes i to h → h.kind ≡ 8 → Decides r (NameLimits (body_in bytes h)) → r ≡ true → NameAt bytes i to (body_in bytes h)
-name_at {bytes} {i} {to} {h} f k d t = record { framed = subst (λ n. Framed bytes i to n (body_in bytes h)) k f.framed; within = d.0 t }
+pub name_at : {bytes xs : List ℕ} {i to : ℕ} {h : Frame} {r : Bool} → FrameAt bytes i to h → h.kind ≡ 8 → xs ≡ body_in bytes h → Decides r (NameLimits xs) → r ≡ true → NameAt bytes i to (body_in bytes h)
+name_at {bytes} {i = i} {to} {h} f k x d t = record { framed = subst (λ n. Framed bytes i to n (body_in bytes h)) k f.framed; within = subst NameLimits x (d.0 t) }
 
 pub has_it : (bytes : List ℕ) (base : ℕ) (before after : List Link) (h : Frame) (b : Bool) → b ≡ false → AddTold bytes [] base before after (Text h.from h.end) (Ok b) → h.from ≤ h.end → h.end ≤ length bytes → Sound bytes [] before base → has (names_from bytes [] before base) (body_in bytes h) ≡ true
 has_it bytes base before after h true f t l m s = absurd (untrue (sym f))
@@ -45,12 +52,17 @@ has_it bytes base before after h false f t l m s = t.1 (l, m) s
 
 -- VALUES
 
-pub sensible : (k : ℕ) (b : List ℕ) (x : Content) → ContentTold k b x → x ≢ Bad → x ≢ LongContent → Sensible k b
-sensible k b Bad t n m = absurd (n refl)
-sensible k b LongContent t n m = absurd (m refl)
-sensible k b Leaf t n m = a_leaf t.0 t.1
-sensible k b ListContent t n m = a_list t
-sensible k b Object t n m = an_object t
+pub content_told : (k : ℕ) {b : List ℕ} (c : List ℕ) {x y : Result Content BodyError} → x ≡ y → b ≡ c → ContentTold k b x → ContentTold k c y
+content_told k c {x} e f t = subst (ContentTold k c) e (subst (λ l. ContentTold k l x) f t)
+
+pub sensible : (k : ℕ) (b : List ℕ) (x : Content) → ContentTold k b (Ok x) → Sensible k b
+sensible k b Leaf t = a_leaf t.0 t.1
+sensible k b ListContent t = a_list t
+sensible k b Object t = an_object t
+
+pub unfit : {bytes : List ℕ} {i to : ℕ} {h : Frame} (d : ℕ) (e : BodyError) → FrameAt bytes i to h → ContentTold h.kind (body_in bytes h) (Err e) → Blames (fault_at e i) (λ g. Reads bytes d i to (fails g))
+unfit d BadForm f t = r_bad f.framed t
+unfit d LongBody f t = r_long f.framed t
 
 module _ {bytes : List ℕ} {d i to : ℕ} {h : Frame} (f : FrameAt bytes i to h) where
   pub leaf_read : 0 < d → (r : Rec) × IsLeaf h.kind (body_in bytes h) r → ValueAt bytes d i to h.end

@@ -1,4 +1,5 @@
 use Rattle.std.proofs.Common.{◌≡◌, ◌++◌, length, refl, ap, ◌∙◌, arith}
+use Rattle.record.specs.Kinds.{number_of}
 use Rattle.record.specs.Records.{named, header, opened, kind_of}
 use Rattle.record.specs.Held.{written}
 use Rattle.record.proofs.Bytes.{both, kept_on}
@@ -10,7 +11,7 @@ returns c =
     let v = written c.args.self.now in
     let w = written c.put_name.new.self in
     let head : written c.put_header.new.self ≡ w ++ header (length (opened c.args.body)) (kind_of c.args.body) =
-    c.put_header.ensures.items ∙ ap (λ n. w ++ header n c.kind.result) count ∙ ap (λ k. w ++ header (length (opened c.args.body)) k) c.kind.ensures in
+    c.put_header.ensures.items ∙ ap (λ n. w ++ header n (number_of c.kind.result)) count ∙ ap (λ k. w ++ header (length (opened c.args.body)) k) c.kind.ensures in
     let tail = both w (written c.put_header.new.self) _ _ (opened c.args.body) _ head c.put_body.ensures.items refl in
     record {
       opened = record {
