@@ -1,5 +1,5 @@
 // Types of variables.
-ghost use Rattle.std.specs.Prelude.{◌≡◌, ◌-◌, ◌<◌, ◌≤◌, length, IfOk, nat_lt};
+ghost use Rattle.std.specs.Prelude.{◌≡◌, ◌-◌, ◌<◌, ◌≤◌, ◌↔◌, true, length, IfOk, IsTrue, nat_lt, slice_get};
 ghost use Rattle.text.specs.Places.{Placed, is_end};
 
 use crate::definition::Schema;
@@ -22,41 +22,47 @@ pub enum Base {
     Unknown,
 }
 
+// A type, without its name in a text.
 #[derive(Clone, Copy)]
-pub struct Type<'a> {
-    pub base: Base,
-    pub name: &'a [u8],
-    // The offset of the name in its text.
-    pub place: usize,
+pub struct Shape<B = Base> {
+    // What the name stands for.
+    pub base: B,
     // How many lists stand around the name.
     pub levels: usize,
     // Of the name itself at 0, of each list around it at 1 and up, of the whole type at `levels`.
     pub non_null: [bool; 9],
 }
 
-impl<'a> Type<'a> {
-    pub fn is_list(&self) -> bool
-        ensures { result ≡ nat_lt 0 self.now.levels }
+impl<B: Copy> Shape<B> {
+    pub fn is_list(self) -> bool
+        ensures { result ≡ nat_lt 0 self.levels }
     {
         self.levels > 0
     }
 
-    pub fn is_non_null(&self) -> bool {
-        self.levels < self.non_null.len() && self.non_null[self.levels]
+    pub fn is_non_null(self) -> bool
+        ensures { IsTrue result ↔ (slice_get self.non_null self.levels ≡ Some true) }
+    {
+        self.non_null.get(self.levels) == Some(&true)
     }
 
     // The type of a list's items; of a type that is no list, the type itself.
-    pub fn item(&self) -> Type<'a>
-        ensures { result.levels ≡ self.now.levels - 1 }
+    pub fn item(self) -> Shape<B>
+        ensures { result ≡ record self { levels = self.levels - 1 } }
     {
-        Type {
-            base: self.base,
-            name: self.name,
-            place: self.place,
+        Shape {
             levels: self.levels.saturating_sub(1),
-            non_null: self.non_null,
+            ..self
         }
     }
+}
+
+#[derive(Clone, Copy)]
+pub struct Type<'a, B = Base> {
+    pub shape: Shape<B>,
+    pub name: &'a [u8],
+    // The offset of the name in its text.
+    pub place: usize,
 }
 
 // The type at `at`, whose name may be one of the schema, and where it ends.
@@ -66,7 +72,7 @@ pub(crate) fn read_type<'a>(
     at: usize,
 ) -> Result<(Type<'a>, usize), Fault>
     requires { at ≤ length text.now }
-    ensures { IfOk result (λ p. (at < p.1) × (p.1 ≤ length text.now) × (p.0.levels ≤ 8)) }
+    ensures { IfOk result (λ p. (at < p.1) × (p.1 ≤ length text.now) × (p.0.shape.levels ≤ 8)) }
 {
     let (levels, inner) = opening(text, at)?;
     let Lexeme { token, start, end } = inner;
@@ -87,11 +93,13 @@ pub(crate) fn read_type<'a>(
     }
     Ok((
         Type {
-            base: schema.base(name),
+            shape: Shape {
+                base: schema.base(name),
+                levels,
+                non_null,
+            },
             name,
             place: start,
-            levels,
-            non_null,
         },
         next,
     ))
