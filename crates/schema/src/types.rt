@@ -1,4 +1,4 @@
-// Types of variables.
+// Types of variables and fields.
 ghost use Rattle.std.specs.Prelude.{◌≡◌, ◌-◌, ◌≤◌, ◌↔◌, true, IfOk, IsTrue, nat_lt, slice_get};
 ghost use Rattle.schema.specs.Reading.{Onward};
 
@@ -16,8 +16,12 @@ pub enum Base {
     String,
     Boolean,
     Id,
-    // The index of a declared scalar.
+    // The indices of declared types: of scalars, enums and input objects.
     Custom(usize),
+    Enum(usize),
+    Input(usize),
+    // No input type.
+    Output,
     Unknown,
 }
 
