@@ -37,10 +37,10 @@ fn scalar_fits<S: Source>(source: &S, at: usize, base: Base) -> bool {
             scalars::finite(digits, scale.exponent)
         }
         (Base::Float, Kind::Decimal) => scalars::finite(source.text(at), source.scale(at).exponent),
-        (Base::String, Kind::String) => true,
-        (Base::Boolean, Kind::Boolean) => true,
-        (Base::Id, Kind::String | Kind::Whole) => true,
-        (Base::Custom(_), _) => true,
+        (Base::String, Kind::String)
+        | (Base::Boolean, Kind::Boolean)
+        | (Base::Id, Kind::String | Kind::Whole)
+        | (Base::Custom(_), _) => true,
         _ => false,
     }
 }
