@@ -12,7 +12,6 @@ use validation::{make_operation, make_schema};
 
 // A refusal: its number, its layer and its place.
 fn refusal(heap: Global, number: u8, layer: Layer, place: usize) -> Result<String, AllocError> {
-    let layer = layer.word();
     format!(in heap; "refused {number} {layer} {place}")
 }
 

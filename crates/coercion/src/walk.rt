@@ -318,10 +318,10 @@ impl<'w, S: Source, R: ScalarRule> Walk<'w, '_, '_, '_, S, R> {
         ensures same { out.new.bytes.ghost_name ≡ out.old.bytes.ghost_name }
     {
         pile.clear();
-        let non_null = ty.non_null;
+        let non_null = ty.shape.non_null;
         let shape = Shape {
-            base: ty.base,
-            levels: ty.levels,
+            base: ty.shape.base,
+            levels: ty.shape.levels,
             non_null,
         };
         self.begin(Some(name), at, Target::Typed(shape), out, pile)?;

@@ -107,7 +107,7 @@ impl<S: Source, R: ScalarRule> Request<'_, '_, '_, '_, '_, '_, S, R> {
             walk.walk(variable.name, literal.root(), &variable.ty, out, pile)?;
             return Ok(());
         }
-        if variable.ty.is_non_null() {
+        if variable.ty.shape.is_non_null() {
             return Err(RequestFault::MissingVariable {
                 place: variable.place,
                 variable: index,

@@ -54,10 +54,10 @@ impl MakeFault {
     {
         match self {
             MakeFault::Text(fault) => fault.place(),
-            MakeFault::UnknownType(at) => at,
-            MakeFault::NotInput(at) => at,
-            MakeFault::BadDefault(at) => at,
-            MakeFault::DefaultCycle(at) => at,
+            MakeFault::UnknownType(at)
+            | MakeFault::NotInput(at)
+            | MakeFault::BadDefault(at)
+            | MakeFault::DefaultCycle(at) => at,
         }
     }
 }

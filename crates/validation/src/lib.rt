@@ -55,45 +55,43 @@ pub fn make_operation<'a>(
 
 // The place of the first scalar's name that is built in, or that an earlier scalar has.
 fn repeated_scalar(schema: &Schema<'_>) -> Option<usize> {
-    for (i, scalar) in schema.scalars.iter().enumerate() {
-        if definition::built_in(scalar.name).is_some() || schema.find(scalar.name) != Some(i) {
-            return Some(scalar.place);
-        }
-    }
-    None
+    schema
+        .scalars
+        .iter()
+        .enumerate()
+        .find(|(i, scalar)| {
+            definition::built_in(scalar.name).is_some() || schema.find(scalar.name) != Some(*i)
+        })
+        .map(|(_, scalar)| scalar.place)
 }
 
 // The place of the first variable's name that an earlier variable has.
 fn repeated_variable(operation: &Operation<'_>) -> Option<usize> {
-    for (i, variable) in operation.variables.iter().enumerate() {
-        if operation.find(variable.name) != Some(i) {
-            return Some(variable.name_place);
-        }
-    }
-    None
+    operation
+        .variables
+        .iter()
+        .enumerate()
+        .find(|(i, variable)| operation.find(variable.name) != Some(*i))
+        .map(|(_, variable)| variable.name_place)
 }
 
 // The place of the first type's name that stands for nothing.
 fn unknown_type(operation: &Operation<'_>) -> Option<usize> {
-    for variable in operation.variables.iter() {
-        let ty = variable.ty;
-        if ty.base == Base::Unknown {
-            return Some(ty.place);
-        }
-    }
-    None
+    operation
+        .variables
+        .iter()
+        .map(|variable| variable.ty)
+        .find(|ty| ty.shape.base == Base::Unknown)
+        .map(|ty| ty.place)
 }
 
 // The place of the first default that holds a variable or does not fit its type.
 fn bad_default(operation: &Operation<'_>) -> Option<usize> {
     let tree = &operation.tree;
-    for variable in operation.variables.iter() {
-        if let Some(at) = variable.default {
-            let ty = variable.ty;
-            if tree.holds_variable(at) || !defaults::fits(tree, at, &ty) {
-                return Some(tree.place(at));
-            }
-        }
-    }
-    None
+    operation.variables.iter().find_map(|variable| {
+        let at = variable.default?;
+        let literal = operation.literal(at);
+        let bad = tree.holds_variable(at) || !defaults::fits(&literal, at, variable.ty.shape);
+        bad.then_some(tree.place(at))
+    })
 }
