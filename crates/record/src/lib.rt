@@ -2,5 +2,4 @@
 #![tactic(auto)]
 
 pub mod body;
-pub mod hex;
 pub mod working;
