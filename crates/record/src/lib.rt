@@ -2,4 +2,5 @@
 #![tactic(auto)]
 
 pub mod body;
+pub mod kind;
 pub mod working;

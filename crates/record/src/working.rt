@@ -1,14 +1,10 @@
 // The bytes that a call works in, and the records that are written into them.
 ghost use Rattle.std.specs.Prelude.{◌≡◌, ℕ, ◌+◌, ◌-◌, ◌^◌, ◌<◌, ◌≤◌, min, [], ◌∷◌, ◌++◌, length, replicate, MatchOption};
+ghost use Rattle.record.specs.Kinds.{number_of};
 ghost use Rattle.record.specs.Records.{kind_of, opened, scale, header, named, patched};
 
 use crate::body::Body;
-
-// The bytes of a record's header.
-pub const HEADER: usize = 6;
-
-// The kind of the record of a member's name.
-const MEMBER_NAME: u8 = 8;
+use crate::kind::{HEADER, RecordKind};
 
 // Working bytes, of which the first `used` are written. They are cleared on every way out.
 pub struct Working<'a> {
@@ -72,13 +68,13 @@ impl<'a> Working<'a> {
     }
 
     // Writes a header.
-    fn put_header(&mut self, count: usize, kind: u8)
+    fn put_header(&mut self, count: usize, kind: RecordKind)
         requires room { self.old.used + 6 ≤ size self.old }
         requires short { count < 2 ^ 32 }
-        ensures { Wrote self.old self.new (header count kind) }
+        ensures { Wrote self.old self.new (header count (number_of kind)) }
     {
         let [a, b, c, d] = (count as u32).to_le_bytes();
-        self.put(&[a, b, c, d, kind, 0]);
+        self.put(&[a, b, c, d, u8::from(kind), 0]);
     }
 
     // Writes the record of a member's name, if there is one.
@@ -88,7 +84,7 @@ impl<'a> Working<'a> {
         ensures { Wrote self.old self.new (named name.entry) }
     {
         if let Some(name) = name {
-            self.put_header(name.len(), MEMBER_NAME);
+            self.put_header(name.len(), RecordKind::Name);
             self.put(name);
         }
     }
