@@ -1,11 +1,8 @@
 // The open records of a walk.
-ghost use Rattle.std.specs.Prelude.{◌≡◌, ◌≤◌, length};
-
+use arrayvec::ArrayVec;
 use schema::types::Base;
+use source::limits::DEEPEST;
 use source::raw::Span;
-
-// The depth of the deepest record.
-pub const DEEPEST: usize = 32;
 
 // A type, without its name in a text.
 #[derive(Clone, Copy)]
@@ -17,12 +14,24 @@ pub struct Shape {
     pub non_null: [bool; 9],
 }
 
-// What a value is walked at.
-#[derive(Clone, Copy)]
-pub enum Target {
-    Typed(Shape),
-    // Inside a custom scalar everything is kept as it is.
-    Contents,
+impl Shape {
+    pub fn is_list(self) -> bool {
+        self.levels > 0
+    }
+
+    pub fn is_non_null(self) -> bool {
+        self.levels < self.non_null.len() && self.non_null[self.levels]
+    }
+
+    // The type of a list's items; of a type that is no list, the type itself.
+    pub fn item(self) -> Shape {
+        let non_null = self.non_null;
+        Shape {
+            base: self.base,
+            levels: self.levels.saturating_sub(1),
+            non_null,
+        }
+    }
 }
 
 // What is still to come in an open record.
@@ -33,14 +42,14 @@ pub enum Rest {
     Items(Span),
     // Members, each with its name.
     Members(Span),
-    Nothing,
 }
 
 // An open record.
-#[derive(Clone, Copy)]
+#[derive(Clone, Copy, Default)]
 pub struct Frame {
-    pub rest: Rest,
-    pub target: Target,
+    pub rest: Option<Rest>,
+    // The type of what is in it; inside a custom scalar, where everything is kept as it is, there is none.
+    pub shape: Option<Shape>,
     // Where the record starts in the working bytes.
     pub start: usize,
     // The cursor of the record's raw value.
@@ -50,10 +59,4 @@ pub struct Frame {
 }
 
 // The open records, the innermost last.
-#[derive(Drop)]
-pub struct Pile {
-    pub frames: [Frame; DEEPEST],
-    pub depth: usize,
-    ghost shallow: { depth ≤ 32 },
-    ghost whole: { length frames ≡ 32 },
-}
+pub type Frames = ArrayVec<Frame, DEEPEST>;

@@ -41,14 +41,6 @@ impl<'a> Working<'a> {
         Working { bytes, used: 0 }
     }
 
-    // How many bytes are written.
-    pub fn used(&self) -> usize
-        ensures { result ≡ self.now.used }
-    {
-        let used = self.used;
-        used
-    }
-
     // The bytes that are written.
     pub fn written(&self) -> &[u8]
         ensures { result.now ≡ written self.now }
