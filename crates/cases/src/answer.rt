@@ -16,7 +16,6 @@ pub fn characters(heap: Global, bytes: &[u8]) -> Result<String, AllocError> {
 
 // A refusal: its number, its layer and its place.
 fn refusal(heap: Global, number: u8, layer: Layer, place: usize) -> Result<String, AllocError> {
-    let layer = layer.word();
     format!(in heap; "refused {number} {layer} {place}")
 }
 

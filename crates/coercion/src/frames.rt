@@ -1,38 +1,8 @@
 // The open records of a walk.
 use arrayvec::ArrayVec;
-use schema::types::Base;
-use source::limits::DEEPEST;
+use schema::types::Shape;
+pub use source::limits::DEEPEST;
 use source::raw::Span;
-
-// A type, without its name in a text.
-#[derive(Clone, Copy)]
-pub struct Shape {
-    pub base: Base,
-    // How many lists stand around the name.
-    pub levels: usize,
-    // Of the name itself at 0, of each list around it at 1 and up, of the whole type at `levels`.
-    pub non_null: [bool; 9],
-}
-
-impl Shape {
-    pub fn is_list(self) -> bool {
-        self.levels > 0
-    }
-
-    pub fn is_non_null(self) -> bool {
-        self.levels < self.non_null.len() && self.non_null[self.levels]
-    }
-
-    // The type of a list's items; of a type that is no list, the type itself.
-    pub fn item(self) -> Shape {
-        let non_null = self.non_null;
-        Shape {
-            base: self.base,
-            levels: self.levels.saturating_sub(1),
-            non_null,
-        }
-    }
-}
 
 // What is still to come in an open record.
 #[derive(Clone, Copy)]

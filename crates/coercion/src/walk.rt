@@ -4,13 +4,13 @@ ghost use Rattle.record.specs.Held.{size, Kept};
 ghost use Rattle.coercion.specs.Frames.{Rooted, Stacked, left};
 
 use crate::fault::{Spot, ValueFault};
-use crate::frames::{Frame, Frames, Rest, Shape};
+use crate::frames::{Frame, Frames, Rest};
 use crate::rule::ScalarRule;
 use record::body::Body;
 use record::working::Working;
 use schema::definition::Schema;
 use schema::scalars;
-use schema::types::{Base, Type};
+use schema::types::{Base, Shape, Type};
 use source::raw::{Form, Kind, Source};
 use text::decimal;
 use text::decimal::Scale;
@@ -282,16 +282,10 @@ impl<'w, S: Source, R: ScalarRule> Walk<'w, '_, '_, '_, S, R> {
         ensures { Kept out.old out.new }
     {
         frames.clear();
-        let non_null = ty.non_null;
-        let shape = Shape {
-            base: ty.base,
-            levels: ty.levels,
-            non_null,
-        };
         let step = Step {
             name: Some(name),
             at,
-            shape: Some(shape),
+            shape: Some(ty.shape),
         };
         self.begin(step, out, frames)?;
         while let Some(frame) = frames.pop() {

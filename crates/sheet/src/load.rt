@@ -86,7 +86,7 @@ impl<S: Source, R: ScalarRule> Request<'_, '_, '_, '_, '_, '_, S, R> {
                 placed: false,
             };
             walk.walk(variable.name, literal.root(), &variable.ty, out, frames)?;
-        } else if variable.ty.is_non_null() {
+        } else if variable.ty.shape.is_non_null() {
             return Err(RequestFault::MissingVariable {
                 place: variable.place,
                 variable: index,

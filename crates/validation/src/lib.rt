@@ -78,7 +78,7 @@ fn repeated_variable(operation: &Operation<'_>) -> Option<usize> {
 fn unknown_type(operation: &Operation<'_>) -> Option<usize> {
     for variable in operation.variables.iter() {
         let ty = variable.ty;
-        if ty.base == Base::Unknown {
+        if ty.shape.base == Base::Unknown {
             return Some(ty.place);
         }
     }
@@ -90,8 +90,8 @@ fn bad_default(operation: &Operation<'_>) -> Option<usize> {
     let tree = &operation.tree;
     for variable in operation.variables.iter() {
         if let Some(at) = variable.default {
-            let ty = variable.ty;
-            if tree.holds_variable(at) || !defaults::fits(tree, at, &ty) {
+            let literal = operation.literal(at);
+            if tree.holds_variable(at) || !defaults::fits(&literal, at, variable.ty.shape) {
                 return Some(tree.place(at));
             }
         }
