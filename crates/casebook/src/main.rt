@@ -3,7 +3,6 @@
 
 use anyhow::anyhow;
 use coercion::rule::AcceptAll;
-use record::hex::hex;
 use sheet::fault::RequestFault;
 use sheet::held::Sheet;
 use std::alloc::AllocError;
@@ -85,7 +84,7 @@ fn sheet(rt: &HostRuntime, folder: &str) -> Result<String, Stop> {
     let text = read(rt, folder, "variables.json")?;
     let mut sheet = Sheet::new(heap, &schema, &operation, AcceptAll, CAPACITY)?;
     sheet.load_json(heap, text.as_slice())?;
-    Ok(hex(heap, sheet.bytes())?)
+    Ok(hex::encode(heap, sheet.bytes())?)
 }
 
 fn run(rt: &HostRuntime) -> anyhow::Result<()> {

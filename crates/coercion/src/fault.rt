@@ -7,7 +7,7 @@ use schema::layer::Layer;
 use text::fault::Fault;
 
 // Where a fault lies: the offset in the text of the raw value, and the declarations that it was walked at.
-#[derive(Clone, Copy, Debug, PartialEq)]
+#[derive(Clone, Copy, Debug, Default, PartialEq)]
 pub struct Spot {
     pub place: usize,
     // The index of the variable.
@@ -73,17 +73,16 @@ impl ValueFault {
         match self {
             ValueFault::Text(fault) => Spot {
                 place: fault.place(),
-                variable: None,
-                field: None,
+                ..Spot::default()
             },
-            ValueFault::TooDeep(spot) => spot,
-            ValueFault::NoSpace(spot) => spot,
-            ValueFault::NullValue(spot) => spot,
-            ValueFault::WrongValue(spot) => spot,
-            ValueFault::UnknownKey(spot) => spot,
-            ValueFault::MissingField(spot) => spot,
-            ValueFault::ScalarRefused(spot) => spot,
-            ValueFault::VariableInValue(spot) => spot,
+            ValueFault::TooDeep(spot)
+            | ValueFault::NoSpace(spot)
+            | ValueFault::NullValue(spot)
+            | ValueFault::WrongValue(spot)
+            | ValueFault::UnknownKey(spot)
+            | ValueFault::MissingField(spot)
+            | ValueFault::ScalarRefused(spot)
+            | ValueFault::VariableInValue(spot) => spot,
         }
     }
 }

@@ -49,11 +49,7 @@ impl Body<'_> {
             Body::Null | Body::List | Body::Object => 0,
             Body::Boolean(_) => 1,
             Body::Whole(text) | Body::String(text) => text.len(),
-            Body::Decimal {
-                negative: _,
-                exponent: _,
-                digits,
-            } => digits.len().saturating_add(SCALE),
+            Body::Decimal { digits, .. } => digits.len().saturating_add(SCALE),
         }
     }
 }

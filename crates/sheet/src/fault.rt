@@ -48,10 +48,7 @@ impl RequestFault {
     {
         match self {
             RequestFault::Value(fault) => fault.number(),
-            RequestFault::MissingVariable {
-                place: _,
-                variable: _,
-            } => 10,
+            RequestFault::MissingVariable { .. } => 10,
             RequestFault::NoMemory => 0,
         }
     }
@@ -75,13 +72,9 @@ impl RequestFault {
             RequestFault::MissingVariable { place, variable } => Spot {
                 place,
                 variable: Some(variable),
-                field: None,
+                ..Spot::default()
             },
-            RequestFault::NoMemory => Spot {
-                place: 0,
-                variable: None,
-                field: None,
-            },
+            RequestFault::NoMemory => Spot::default(),
         }
     }
 }
