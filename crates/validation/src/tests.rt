@@ -9,14 +9,14 @@ use text::fault::Fault;
 fn schema_refusal(heap: Global, text: &[u8]) -> Option<(u8, usize)> {
     match make_schema(heap, text) {
         Ok(_) => None,
-        Err(fault) => Some((fault.number(), fault.place())),
+        Err(fault) => Some((fault.number().unwrap_or(0), fault.place())),
     }
 }
 
 fn refusal(heap: Global, schema: &Schema<'_>, text: &[u8]) -> Option<(u8, usize)> {
     match make_operation(heap, schema, text) {
         Ok(_) => None,
-        Err(fault) => Some((fault.number(), fault.place())),
+        Err(fault) => Some((fault.number().unwrap_or(0), fault.place())),
     }
 }
 
@@ -24,7 +24,7 @@ fn refusal(heap: Global, schema: &Schema<'_>, text: &[u8]) -> Option<(u8, usize)
 fn operation_refusal(heap: Global, text: &[u8]) -> Option<(u8, usize)> {
     match make_schema(heap, b"scalar X") {
         Ok(schema) => refusal(heap, &schema, text),
-        Err(fault) => Some((fault.number(), fault.place())),
+        Err(fault) => Some((fault.number().unwrap_or(0), fault.place())),
     }
 }
 
@@ -91,7 +91,7 @@ fn json_refusal(heap: Global, text: &[u8]) -> Option<(u8, usize)> {
     let read: Result<JsonText<'_>, Fault> = document::read(heap, text);
     match read {
         Ok(_) => None,
-        Err(fault) => Some((fault.number(), fault.place())),
+        Err(fault) => Some((fault.number().unwrap_or(0), fault.place())),
     }
 }
 
