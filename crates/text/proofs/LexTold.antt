@@ -10,7 +10,8 @@ use Rattle.text.specs.declared.number.NumberKind.{NumberKind}
 use Rattle.text.specs.NumberScan.{Found, Unfinished}
 use Rattle.text.specs.StringGrammar.{Reads}
 use Rattle.text.specs.StringDecode.{Scanned, Nothing}
-use Rattle.text.specs.TokenFound.{View, v_number, v_text, v_end, view_of, Skipped, TokenAt, NoToken, TokenHere, FoundHere, NumeralTold, QuotedTold, TokenTold}
+use Rattle.text.specs.TokenGrammar.{Mark}
+use Rattle.text.specs.TokenFound.{View, v_mark, v_number, v_text, v_end, view_of, Skipped, TokenAt, NoToken, TokenHere, FoundHere, NumeralTold, QuotedTold, TokenTold}
 use Rattle.text.specs.Cuts.{part}
 use Rattle.text.proofs.LexNumber.{scan_refused}
 use Rattle.text.proofs.LexBase.{torn}
@@ -60,3 +61,7 @@ module _ (language : Language) (text : List ℕ) (i : ℕ) where
       let P : View → Type 0 = TokenAt language text i l.end in
       found_here l t.0 (subst P (sym t.1.2) (h l.end t.1.0 s)) (omega (arith, s.stands.forward))
   quoted_told h n (Err f) t = subst (λ (g : Fault). FoundHere language text i (Err g)) (sym t.0) (none_here (n t.1))
+
+-- a byte that is a mark
+pub one_mark : (R : ℕ → Mark → Type 0) {b k : ℕ} {m : Mark} → b ≡ k → R k m → (n : Mark) × R b n × (v_mark m ≡ v_mark n)
+one_mark R {m = m} e r = (m, subst (λ (n : ℕ). R n m) (sym e) r, refl)
