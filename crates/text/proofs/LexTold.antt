@@ -25,10 +25,6 @@ told language text at start (Err (NoSpace k)) s h = absurd h
 told language text at start (Err (RepeatedName k)) s h = absurd h
 told language text at start (Err NoMemory) s h = absurd h
 
-pub placed_on : (size at start : ℕ) (r : Result Lexeme Fault) → (at ≤ size → at ≤ start) → start ≤ size → IfOk r (λ l. Placed size start l.start l.end (is_end l.token)) → IfOk r (λ l. Placed size at l.start l.end (is_end l.token))
-placed_on size at start (Ok l) h k p = record { onward = λ a. omega (arith, h a, p.onward k); ordered = p.ordered; within = p.within; some = p.some }
-placed_on size at start (Err f) h k p = tt
-
 pub stands_placed : (size start end : ℕ) (last : Bool) → start < end → end ≤ size → Placed size start start end last
 stands_placed size start end last h k = record { onward = λ a. omega arith; ordered = omega arith; within = k; some = λ e. h }
 
