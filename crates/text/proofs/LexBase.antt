@@ -55,14 +55,15 @@ pub torn : {b : Bool} → b ≡ true → b ≡ false → ⊥
 torn t f = let z : ◌≡◌ {A = ℕ} 0 1 = cc in omega arith
 
 -- what `starts_with` says of the text from a place on
-pub begins_with : (text word : List ℕ) (i : ℕ) (r : Bool) → r ≡ starts_with ◌==◌ (take (length text - i) (drop i text)) word
-    → (r ≡ true → drop i text ≡ word ++ drop (i + length word) text) × ((rest : List ℕ) → drop i text ≡ word ++ rest → r ≡ true)
-begins_with text word i r m =
-    let s = starts_is Decides-eqb (take (length text - i) (drop i text)) word r m in
-    let q = take_rest text i in (
-      λ t. subst (λ l. l ≡ word ++ drop (length word) l) q (s.0 t) ∙ ap (λ l. word ++ l) (drop-drop (length word) i text),
-      λ rest e. s.1 rest (q ∙ e),
-    )
+module _ (text word : List ℕ) (i : ℕ) {r : Bool} (m : r ≡ starts_with ◌==◌ (take (length text - i) (drop i text)) word) where
+  told : (r ≡ true → take (length text - i) (drop i text) ≡ word ++ drop (length word) (take (length text - i) (drop i text))) × ((rest : List ℕ) → take (length text - i) (drop i text) ≡ word ++ rest → r ≡ true)
+  told = starts_is Decides-eqb (take (length text - i) (drop i text)) word r m
+
+  pub begins : r ≡ true → drop i text ≡ word ++ drop (i + length word) text
+  begins t = subst (λ l. l ≡ word ++ drop (length word) l) (take_rest text i) (told.0 t) ∙ ap (λ l. word ++ l) (drop-drop (length word) i text)
+
+  pub begins_not : r ≡ false → (rest : List ℕ) → drop i text ≡ word ++ rest → ⊥
+  begins_not f rest e = torn (told.1 rest (take_rest text i ∙ e)) f
 
 pub begins_fits : (text word : List ℕ) (i : ℕ) → 0 < length word → drop i text ≡ word ++ drop (i + length word) text → i + length word ≤ length text
 begins_fits text word i h e = omega (arith, ap length e, length-append word (drop (i + length word) text), length-drop i text)

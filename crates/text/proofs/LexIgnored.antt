@@ -46,12 +46,6 @@ char_told text i j c x true d = record {
 }
 char_told text i j c x false n = λ r q. n (by_char x.reads q).1
 
-none_char : {xs r : List ℕ} → ((c : ℕ) (s : List ℕ) → Utf8Char xs c s → ⊥) → CommentChar xs r → ⊥
-none_char {r = r} n (comment_char_rule {c = c} u d) = n c r u
-
-pub no_char : (text : List ℕ) (i : ℕ) → Nothing Utf8Char text i → (r : List ℕ) → CommentChar (drop i text) r → ⊥
-no_char text i n r q = none_char n q
-
 -- a comment
 by_sign : {t r : List ℕ} → Comment (35 ∷ t) r → CommentRest t r
 by_sign (number_sign c) = c

@@ -10,7 +10,8 @@ use Rattle.text.specs.declared.number.NumberKind.{NumberKind}
 use Rattle.text.specs.NumberScan.{Found, Unfinished}
 use Rattle.text.specs.StringGrammar.{Reads}
 use Rattle.text.specs.StringDecode.{Scanned, Nothing}
-use Rattle.text.specs.TokenFound.{View, v_number, v_text, v_end, view_of, Skipped, TokenAt, NoToken, TokenHere, FoundHere, NumeralTold, QuotedTold, TokenTold}
+use Rattle.text.specs.TokenGrammar.{Mark}
+use Rattle.text.specs.TokenFound.{View, v_mark, v_number, v_text, v_end, view_of, Skipped, TokenAt, NoToken, TokenHere, FoundHere, NumeralTold, QuotedTold, TokenTold}
 use Rattle.text.specs.Cuts.{part}
 use Rattle.text.proofs.LexNumber.{scan_refused}
 use Rattle.text.proofs.LexBase.{torn}
@@ -23,10 +24,6 @@ told language text at start (Err (TooDeep k)) s h = absurd h
 told language text at start (Err (NoSpace k)) s h = absurd h
 told language text at start (Err (RepeatedName k)) s h = absurd h
 told language text at start (Err NoMemory) s h = absurd h
-
-pub placed_on : (size at start : ℕ) (r : Result Lexeme Fault) → (at ≤ size → at ≤ start) → start ≤ size → IfOk r (λ l. Placed size start l.start l.end (is_end l.token)) → IfOk r (λ l. Placed size at l.start l.end (is_end l.token))
-placed_on size at start (Ok l) h k p = record { onward = λ a. omega (arith, h a, p.onward k); ordered = p.ordered; within = p.within; some = p.some }
-placed_on size at start (Err f) h k p = tt
 
 pub stands_placed : (size start end : ℕ) (last : Bool) → start < end → end ≤ size → Placed size start start end last
 stands_placed size start end last h k = record { onward = λ a. omega arith; ordered = omega arith; within = k; some = λ e. h }
@@ -60,3 +57,7 @@ module _ (language : Language) (text : List ℕ) (i : ℕ) where
       let P : View → Type 0 = TokenAt language text i l.end in
       found_here l t.0 (subst P (sym t.1.2) (h l.end t.1.0 s)) (omega (arith, s.stands.forward))
   quoted_told h n (Err f) t = subst (λ (g : Fault). FoundHere language text i (Err g)) (sym t.0) (none_here (n t.1))
+
+-- a byte that is a mark
+pub one_mark : (R : ℕ → Mark → Type 0) {b k : ℕ} {m : Mark} → b ≡ k → R k m → (n : Mark) × R b n × (v_mark m ≡ v_mark n)
+one_mark R {m = m} e r = (m, subst (λ (n : ℕ). R n m) (sym e) r, refl)

@@ -213,11 +213,6 @@ trim_last xs ys base end t e h b =
     get_or-drop base ys (length (drop base ys) - 1) 0 ∙ ap (λ k. get_or ys k 0) there ∙ ap (λ l. get_or l (end - 1) 0) e ∙ get_or-take end xs (end - 1) 0 (omega arith) in
     t.last h (sym here ∙ b)
 
-pub zeros_none : (xs : List ℕ) (n : ℕ) → n ≡ length xs → drop n xs ≡ replicate (length xs - n) 48
-zeros_none xs n e =
-    let z : 0 ≡ length xs - n = omega arith in
-    drop_past xs n (omega arith) ∙ ap (λ k. replicate k 48) z
-
 pub zeros_less : (xs : List ℕ) (n : ℕ) → 0 < n → n ≤ length xs → get_or xs (n - 1) 0 ≡ 48 → drop n xs ≡ replicate (length xs - n) 48 → drop (n - 1) xs ≡ replicate (length xs - (n - 1)) 48
 zeros_less xs n h l b z =
     let one : n ≡ (n - 1) + 1 = omega arith in

@@ -6,11 +6,8 @@ ghost use Rattle.text.specs.NumberWorth.{NumbersWrite, WritersAreNumbers, Writes
 ghost use Rattle.text.specs.NormalForm.{DigitsTo, Sized, Led, Powered, Grown, Trimmed, Signs, Split, start_of, Told, WholeOf, WholeNormal, OfWhole, FormsAreUnique, EqualNumbersEqualForms, EqualFormsEqualNumbers, WholesAreUnique};
 
 use crate::fault::Fault;
-use crate::limits::LONGEST_NUMBER;
+use crate::limits::{LONG_EXPONENT, LONGEST_NUMBER};
 use crate::run::run_end;
-
-// The greatest written exponent, without its sign.
-const GREATEST_EXPONENT: u32 = 999_999;
 
 // Sign and exponent of a decimal in normal form; its digits stand elsewhere.
 #[derive(Clone, Copy, Debug, PartialEq)]
@@ -49,7 +46,7 @@ fn size(digits: &[u8]) -> Option<u32>
     let mut value: u32 = 0;
     for b in digits {
         value = value * 10 + char::from(*b).to_digit(10)?;
-        if value > GREATEST_EXPONENT {
+        if value >= LONG_EXPONENT {
             return None;
         }
     }

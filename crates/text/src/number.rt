@@ -4,7 +4,7 @@ ghost use Rattle.text.specs.NumberMoves.{Stepped, Finished, kind_in};
 ghost use Rattle.text.specs.NumberScan.{Scanned, OneScan};
 
 use crate::fault::Fault;
-use crate::limits::LONGEST_NUMBER;
+use crate::limits::{LONG_EXPONENT, LONGEST_NUMBER};
 
 // A number with neither a fraction nor an exponent is whole.
 #[derive(Clone, Copy, Debug, PartialEq)]
@@ -26,9 +26,6 @@ enum State {
     ExpSign,
     ExpDigits,
 }
-
-// The digits of an exponent write less than this.
-const LONG_EXPONENT: u32 = 1_000_000;
 
 // The state, and what the digits of the exponent write so far, as far as `LONG_EXPONENT`.
 #[derive(Clone, Copy)]

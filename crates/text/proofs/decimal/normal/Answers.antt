@@ -1,9 +1,8 @@
-use Rattle.std.proofs.Common.{◌≡◌, ℕ, ◌-◌, ◌<◌, Bool, List, length, drop, ℤ, nat_abs, vec_items, sym, refl, ap, ◌∙◌, subst, arith, w32, SFits, to_z, of_z, rules}
+use Rattle.std.proofs.Common.{◌≡◌, ℕ, ◌-◌, ◌<◌, Bool, List, length, drop, ℤ, nat_abs, vec_items, sym, ap, ◌∙◌, subst, arith, w32, SFits, to_z, of_z, rules}
 use Rattle.std.proofs.lemmas.Int.{to_z-of_z}
 use Rattle.std.proofs.lemmas.Result.{err_from_is_err_and}
-use Rattle.text.specs.declared.fault.Fault.TheVariants.{LongNumber}
 use Rattle.text.specs.NumberWorth.{after, Power, Writes}
-use Rattle.text.specs.NormalForm.{Powered, Within, great, Grown, Trimmed}
+use Rattle.text.specs.NormalForm.{Powered, Within, Grown, Trimmed}
 use Rattle.text.proofs.NormSettle.{Aligned, aligned, amount_is, worth_is, length_part, Settled, settled, unadded, added_zero, added_some}
 use Rattle.text.proofs.decimal.normal.Goals.{After-locate-start, In_ok-power, After-truncate}
 use Rattle.text.proofs.decimal.normal.Goals as goal
@@ -17,19 +16,6 @@ power_is : (c : In_ok-power) (n : Bool) (a : ℕ) (s : ℤ) (w : Writes c.args.t
 power_is c n a s w x =
     let t = subst (Powered (drop c.locate-start.result.mark c.args.text.now)) c.in_ok-power.ensures.ok_part c.power.ensures in
     (t.0, t.1 w.p (subst (λ (k : List ℕ). Power k w.p) (sym x.power) w.power))
-
-pub returns-in_err-power : goal.returns-in_err-power
-returns-in_err-power c =
-    let p = err_from_is_err_and c.from_residual.result c.from_residual.ensures.1 in
-    let f : c.in_err-power.field-0.0 ≡ LongNumber 0 = grind (arith, c.in_err-power.ensures.value, c.in_err-power.ensures.ok_part) in
-    let none = subst (Powered (drop c.locate-start.result.mark c.args.text.now)) c.in_err-power.ensures.ok_part c.power.ensures in
-    rw (p.1, p.2, f) (
-      refl,
-      search rules,
-      great (omega (arith, c.if-text-gt-LONGEST_NUMBER.false)) (λ n a s w.
-          let x = align (goal.at.returns-in_err-power c).After-locate-start n a s w in
-          none w.p (subst (λ (l : List ℕ). Power l w.p) (sym x.power) w.power)),
-    )
 
 within : (c : In_ok-power) (l : (n : Bool) (a : ℕ) (s : ℤ) (w : Writes c.args.text.now n a s) → Aligned c.args.text.now c.minus-negative.result c.locate-start.result n w.i w.ds w.e) → Within c.args.text.now
 within c l = record {

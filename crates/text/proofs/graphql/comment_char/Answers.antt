@@ -1,8 +1,5 @@
-use Rattle.text.proofs.LexIgnored.{char_told, no_char}
+use Rattle.text.proofs.LexIgnored.{char_told}
 use Rattle.text.proofs.graphql.comment_char.Goals as goal
-
-pub returns-in_err-c : goal.returns-in_err-c
-returns-in_err-c c = rw c.from_residual.ensures (no_char c.args.text.now c.args.at c.in_err-c.ensures)
 
 pub returns : goal.returns
 returns c = rw c.then_some.ensures (char_told c.args.text.now c.args.at c.in_ok-c.end c.in_ok-c.c c.in_ok-c.ensures c.comment_code.result c.comment_code.ensures)

@@ -21,14 +21,14 @@ returns-then-begins_number c =
     let f = subst NumberFirst (b.1 0) c.if-begins_number.ensures in
     numeral_told Json c.args.text.now c.args.start (number_here c.args.text.now c.args.start) (no_number c.args.text.now c.args.start b.0 f) c.numeral.result c.numeral.ensures
 
-pub literal-requires : goal.literal-requires
-literal-requires c = let b = c.in-Some.ensures.lookup.3 in (record { start_in_bounds = b.0; literal_name = true_name; start_value = sym (b.1 0) ∙ c.in-116.is })
+pub literal-requires-clause-literal_name : goal.literal-requires-clause-literal_name
+literal-requires-clause-literal_name c = true_name
 
-pub literal-requires-in-102 : goal.literal-requires-in-102
-literal-requires-in-102 c = let b = c.in-Some.ensures.lookup.3 in (record { start_in_bounds = b.0; literal_name = false_name; start_value = sym (b.1 0) ∙ c.in-102.is })
+pub literal-requires-in-102-clause-literal_name : goal.literal-requires-in-102-clause-literal_name
+literal-requires-in-102-clause-literal_name c = false_name
 
-pub literal-requires-in-110 : goal.literal-requires-in-110
-literal-requires-in-110 c = let b = c.in-Some.ensures.lookup.3 in (record { start_in_bounds = b.0; literal_name = null_name; start_value = sym (b.1 0) ∙ c.in-110.is })
+pub literal-requires-in-110-clause-literal_name : goal.literal-requires-in-110-clause-literal_name
+literal-requires-in-110-clause-literal_name c = null_name
 
 pub returns-in-34 : goal.returns-in-34
 returns-in-34 c =

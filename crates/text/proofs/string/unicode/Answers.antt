@@ -1,11 +1,8 @@
 use Rattle.std.proofs.Common.{◌+◌, ◌≤◌, sym, subst, inl, inr, ⊎_elim, arith}
 use Rattle.text.specs.StringDecode.{Exactly}
 use Rattle.text.specs.StringGrammar.{Code}
-use Rattle.text.proofs.StrCodes.{code_none, code_lone, code_low, code_no_low, code_pair}
+use Rattle.text.proofs.StrCodes.{code_lone, code_low, code_no_low, code_pair}
 use Rattle.text.proofs.string.unicode.Goals as goal
-
-pub returns-in_err-high : goal.returns-in_err-high
-returns-in_err-high c = rw c.from_residual.ensures (code_none c.args.text.now c.args.at c.in_err-high.ensures)
 
 pub returns-in-Some : goal.returns-in-Some
 returns-in-Some c =
