@@ -21,9 +21,6 @@ keeps_on {k} {T} {U} {V} a b = record {
   nodes = λ i h l. b.nodes i h (omega (arith, a.grows)) ∙ a.nodes i h l;
 }
 
-pub keeps_fewer : {j k : ℕ} {T U : Table} → j ≤ k → Keeps j T U → Keeps k T U
-keeps_fewer h a = record { text = a.text; more = a.more; pool = a.pool; grows = a.grows; nodes = λ i g l. a.nodes i (omega arith) l }
-
 -- the bytes of a part
 pub fits_kept : {k : ℕ} {T U : Table} → Keeps k T U → (p : Part) → PartFits T.text T.pool p → PartFits U.text U.pool p
 fits_kept {k} {T} {U} a p h =

@@ -8,12 +8,9 @@ use Rattle.model.specs.Coercion.{member}
 use Rattle.model.specs.Limits.{RawLimits, RawLimitsAll, RawLimitsMems}
 use Rattle.source.specs.declared.raw.Span.{Span}
 use Rattle.source.specs.Nodes.{node_at}
-use Rattle.source.specs.Table.{Table, Says, Named, StandsAll, StandsMems, Held, HeldAll, HeldMems, past_of}
+use Rattle.source.specs.Table.{Table, Named, StandsAll, StandsMems, Held, HeldAll, HeldMems, past_of}
 use Rattle.source.specs.Standing.{LeadsItems, LeadsMembers, Found}
 use Rattle.source.specs.OneTree.{head_of, forward_all, forward_mems}
-
-pub says_of : {T : Table} {at : ℕ} {t : Raw} → Held T at t → Says T (node_at T.nodes at) t
-says_of {T} {at} {t} h = (head_of T at t h.stands).says
 
 -- what is within the limits at a depth is so at a lesser one
 mutual

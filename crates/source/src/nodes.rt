@@ -94,7 +94,7 @@ impl Nodes {
         }
     }
 
-    // The node at `at`, if it is there.
+    // The node at `at`; where there is none, NOTHING.
     pub fn get(&self, at: usize) -> Node
         ensures { result ≡ node_at self.now.list.items at }
     {

@@ -3,10 +3,10 @@ use Rattle.std.proofs.lemmas.Result.{err_from_is_err_and}
 use Rattle.source.specs.Table.{Stands, table_of}
 use Rattle.text.specs.declared.token.Token.TheVariants.{End}
 use Rattle.text.specs.TokenGrammar.{Lexical}
-use Rattle.reader.specs.Tokens.{Sights, sees, blind}
-use Rattle.reader.specs.Reading.{fails, Reads, all_fails, all_read, after_all}
+use Rattle.reader.specs.Tokens.{sees, blind}
+use Rattle.reader.specs.Reading.{all_fails, all_read, after_all}
 use Rattle.reader.specs.Document.{FaultWhole, whole_long, whole_read}
-use Rattle.reader.proofs.Growing.{blames_all, blames_map}
+use Rattle.reader.proofs.Growing.{ValueFails, blames_all, blames_map}
 use Rattle.reader.proofs.Beginning.{holds_as}
 use Rattle.reader.proofs.TokenKinds.{not_last}
 use Rattle.reader.proofs.manner.Reader.whole.Goals as goal
@@ -18,7 +18,7 @@ pub returns-in_err-end : goal.returns-in_err-end
 returns-in_err-end c =
     let p = err_from_is_err_and c.from_residual.result c.from_residual.ensures.1 in
     rw (p.1, p.2)
-    (blames_map (λ g. Reads (Sights c.args.self.manner.language c.args.self.text.now) c.args.self.manner.language c.args.self.manner.distinct 33 0 (fails g)) (FaultWhole c.args.self.manner c.args.self.text.now)
+    (blames_map (ValueFails c.args.self.manner c.args.self.text.now 33 0) (FaultWhole c.args.self.manner c.args.self.text.now)
     (λ g r. whole_read c.if-self-gt-LONGEST_TEXT.false (all_fails r)) _ c.in_err-end.ensures)
 
 pub returns-in_err-after : goal.returns-in_err-after
