@@ -1,52 +1,20 @@
 -- Items and members in spans.
-use Rattle.std.proofs.Common.{◌≡◌, ℕ, suc, ◌+◌, ◌≤◌, true, ◌≢◌, List, [], ◌++◌, length, drop, Some, None, sym, refl, ap, ◌∙◌, subst, ⊎_elim, arith, length-append, length-drop}
+use Rattle.std.proofs.Common.{◌≡◌, ℕ, ◌+◌, ◌≤◌, true, ◌≢◌, List, [], ◌++◌, length, drop, Some, None, sym, refl, ap, ◌∙◌, subst, ⊎_elim, arith, length-append, length-drop}
 use mathlib.Core.Option.{some}
 use Rattle.std.proofs.lemmas.Bool.{cond-true, cond-false, cases_Bool}
-use Rattle.model.specs.Values.{Name, Rec, Recs, Rmems, r_null, r_plain, r_list, r_object, r_nil, r_cons, r_end, r_mem, Raws, Mems, list, object, end, mem, same}
+use Rattle.model.specs.Values.{Name, Rec, Recs, Rmems, r_nil, r_cons, r_end, r_mem, Raws, Mems, end, mem, same}
 use Rattle.model.specs.Coercion.{member}
 use Rattle.model.specs.Records.{kind, body, encode, encode_all, encode_mems, framed}
-use Rattle.model.specs.Limits.{RecLimits, RecLimitsAll, RecLimitsMems}
+use Rattle.model.specs.Limits.{RecLimitsAll, RecLimitsMems}
 use Rattle.model.proofs.CoNames.{same_refl, same_true}
 use Rattle.source.specs.declared.raw.Span.{Span}
 use Rattle.source.specs.Standing.{LeadsItems, LeadsMembers, Found}
-use Rattle.record.specs.Kinds.{number_of}
 use Rattle.stored.specs.declared.header.Frame.{Frame}
-use Rattle.stored.specs.declared.stored.Target.{Target}
 use Rattle.stored.specs.Frames.{past, Framed, Unframed, Fills, FrameAt}
-use Rattle.stored.specs.Cursors.{shown, shown_all, shown_mems, at_item, at_member, Held, HeldAll, HeldMems, Named, Points}
+use Rattle.stored.specs.Cursors.{shown_all, shown_mems, at_item, at_member, Held, HeldAll, HeldMems, Named}
 use Rattle.stored.specs.OneFrame.{one_framed}
 use Rattle.stored.specs.OneTree.{kind_small}
 use Rattle.stored.proofs.OutSound.{fills_split, fills_framed}
-
--- INSIDE A VALUE
-
-abbrev span_of : Target → Span
-span_of h = record { from = h.from; to = h.from + length h.body.now }
-
-filled : {bytes : List ℕ} {p f : ℕ} {r : Rec} {h : Target} → Points bytes p f r h → Fills bytes h.from (h.from + length h.body.now) (body r)
-filled {bytes} {r = r} {h} x = rw (x.from, x.bodies) x.there
-
-list_span : (bytes : List ℕ) (p f q d : ℕ) (xs : Raws) (h : Target) (r : Rec) → shown p f r ≡ list q xs → Points bytes p f r h → RecLimits d r → length bytes ≤ 65536 → (number_of h.kind ≡ 6) × HeldAll bytes (span_of h) xs
-list_span bytes p f q d xs h r_null e x l n = absurd (let z : ◌≡◌ {A = ℕ} 0 1 = cc in omega arith)
-list_span bytes p f q d xs h (r_plain y) e x l n = absurd (let z : ◌≡◌ {A = ℕ} 0 1 = cc in omega arith)
-list_span bytes p f q d xs h (r_list rs) e x l n =
-    let s : shown_all f rs ≡ xs = cc in
-    (x.kinds, record { values = rs; fills = filled x; shows = ap (λ i. shown_all i rs) x.from ∙ s; depth = suc d; within = l.1; short = n })
-list_span bytes p f q d xs h (r_object ms) e x l n = absurd (let z : ◌≡◌ {A = ℕ} 0 1 = cc in omega arith)
-
-object_span : (bytes : List ℕ) (p f q d : ℕ) (ms : Mems) (h : Target) (r : Rec) → shown p f r ≡ object q ms → Points bytes p f r h → RecLimits d r → length bytes ≤ 65536 → (number_of h.kind ≡ 7) × HeldMems bytes (span_of h) ms
-object_span bytes p f q d ms h r_null e x l n = absurd (let z : ◌≡◌ {A = ℕ} 0 1 = cc in omega arith)
-object_span bytes p f q d ms h (r_plain y) e x l n = absurd (let z : ◌≡◌ {A = ℕ} 0 1 = cc in omega arith)
-object_span bytes p f q d ms h (r_list rs) e x l n = absurd (let z : ◌≡◌ {A = ℕ} 0 1 = cc in omega arith)
-object_span bytes p f q d ms h (r_object ks) e x l n =
-    let s : shown_mems f ks ≡ ms = cc in
-    (x.kinds, record { values = ks; fills = filled x; shows = ap (λ i. shown_mems i ks) x.from ∙ s; depth = suc d; within = l.2; short = n })
-
-pub held_list : (bytes : List ℕ) (at p : ℕ) (xs : Raws) (h : Target) (x : Held bytes at (list p xs)) → Points bytes x.place x.from x.value h → (number_of h.kind ≡ 6) × HeldAll bytes (record { from = h.from; to = h.from + length h.body.now }) xs
-held_list bytes at p xs h x y = list_span bytes x.place x.from p x.depth xs h x.value x.shows y x.within x.short
-
-pub held_object : (bytes : List ℕ) (at p : ℕ) (ms : Mems) (h : Target) (x : Held bytes at (object p ms)) → Points bytes x.place x.from x.value h → (number_of h.kind ≡ 7) × HeldMems bytes (record { from = h.from; to = h.from + length h.body.now }) ms
-held_object bytes at p ms h x y = object_span bytes x.place x.from p x.depth ms h x.value x.shows y x.within x.short
 
 -- THE NEXT ITEM
 

@@ -1,5 +1,5 @@
-use Rattle.std.proofs.Common.{◌≢◌, arith, sym, ◌∙◌}
-use Rattle.stored.proofs.CoForms.{untrue}
+use Rattle.std.proofs.Common.{◌≢◌, arith}
+use Rattle.std.proofs.lemmas.Bool.Decides.{not_from_Decides}
 use Rattle.stored.proofs.CuSpans.{items_none, items_next, items_unnamed, members_none, members_named, members_valued, members_next}
 use Rattle.stored.proofs.PaLaws.{taken_item, taken_member}
 use Rattle.stored.proofs.stored.StoredSource.next.Goals as goal
@@ -15,7 +15,7 @@ returns-in_err-first c = rw c.from_residual.ensures (record {
 pub returns-then-not-is_name : goal.returns-then-not-is_name
 returns-then-not-is_name c =
     let a = c.in_ok-first.ensures in
-    let k : c.in_ok-first.first.kind ≢ 8 = λ e. untrue (sym c.if-not-is_name.true ∙ c.is_name.ensures.1 e) in
+    let k : c.in_ok-first.first.kind ≢ 8 = not_from_Decides _ c.is_name.ensures c.if-not-is_name.true in
     record {
       taken = taken_item c.args.span a k;
       shrinks = omega (arith, a.starts, a.forward, a.within);
