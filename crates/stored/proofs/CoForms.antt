@@ -1,7 +1,7 @@
 -- The forms of bodies, tested byte by byte.
 use Rattle.std.proofs.Common.{◌≡◌, ℕ, zero, suc, ◌+◌, ◌-◌, ◌*◌, ◌^◌, ◌<◌, ◌≤◌, Bool, true, false, cond, eqb, ltb, ◌≢◌, List, [], ◌∷◌, ◌++◌, length, get_or, take, drop, ℤ, pos, negsuc, IsUtf8, Decides, Result, sym, refl, ap, ◌∙◌, subst, ⊎_elim, arith, length-drop}
 use Rattle.std.proofs.lemmas.List.{take_all, get_or-drop}
-use Rattle.std.proofs.lemmas.Bool.{cases_lt, eqb-true, lt-ltb, le-ltb}
+use Rattle.std.proofs.lemmas.Bool.{false≢true, cases_lt, eqb-true, lt-ltb, le-ltb}
 use Rattle.text.specs.NumberGrammar.{Digits, none, digit}
 use Rattle.text.specs.NormalForm.{Each, Form, form_zero, form, WholeForm, whole_zero, whole_above, whole_below}
 use Rattle.text.proofs.NormValues.{each_of}
@@ -15,9 +15,6 @@ use Rattle.stored.specs.declared.content.Content.{Content}
 use Rattle.stored.specs.declared.content.BodyError.{BodyError}
 use Rattle.stored.specs.Contents.{BooleanForm, Positive, zero_body, DecimalForm, IsLeaf, Long, Senseless, ContentTold, leaf_of}
 use Rattle.stored.proofs.FrLaws.{bytes_of}
-
-pub untrue : false ≡ true → ⊥
-untrue e = let z : ◌≡◌ {A = ℕ} 0 1 = cc in omega arith
 
 -- BOOLEANS
 
@@ -34,9 +31,6 @@ truth-small false = omega arith
 
 pub boolean_told : (b : List ℕ) → length b ≡ 1 → get_or b 0 0 ≤ 1 → Decides true (BooleanForm b)
 boolean_told b l h = (λ t. boolean_form_lem b l h, λ f. refl)
-
-pub boolean_small : (b : List ℕ) → BooleanForm b → get_or b 0 0 ≤ 1
-boolean_small b f = let e = ap (λ l. get_or l 0 0) f.1 in omega (arith, truth-small f.0)
 
 -- WHOLE NUMBERS
 
@@ -167,7 +161,7 @@ decimal_shaped b z f = shaped f.formed b f.body z
 -- where the last digit is a zero, only zero is in normal form
 pub zero_ended : (b : List ℕ) (r : Bool) → 5 < length b → get_or b (length b - 1) 0 ≡ 48 → Decides r (b ≡ zero_body) → Decides r (DecimalForm b)
 zero_ended b true h last d = (λ t. decimal_zero b (d.0 t), λ f. refl)
-zero_ended b false h last d = (λ t. decimal_zero b (d.0 t), λ f. absurd ((decimal_shaped b (λ e. untrue (d.1 e)) f).last last))
+zero_ended b false h last d = (λ t. decimal_zero b (d.0 t), λ f. absurd ((decimal_shaped b (λ e. false≢true (d.1 e)) f).last last))
 
 pub decimal_told : (b : List ℕ) (r : Bool) → 5 ≤ length b → get_or b 0 0 ≤ 1 → (5 < length b → get_or b (length b - 1) 0 ≢ 48) → ((k : ℕ) → get_or b k 0 < 256) → Decides r (Positive (take (length b - 5) (drop 5 b))) → Decides r (DecimalForm b)
 decimal_told b r h s last small d =
@@ -232,7 +226,7 @@ not_long k b x y l = ⊎_elim (λ h. x h.0) (λ h. y h.0) l
 -- a kind whose body is tested
 told_leaf : (k : ℕ) (b : List ℕ) (good : Bool) (P : Type 0) → Decides good P → (P → (r : Rec) × IsLeaf k b r) → ((r : Rec) → IsLeaf k b r → P) → (Long k b → ⊥) → k ≤ 5 → ContentTold k b (leaf_of good)
 told_leaf k b true P d f g l h = f (d.0 refl)
-told_leaf k b false P d f g l h = record { no_leaf = λ r x. untrue (d.1 (g r x)); not_long = l; no_list = λ e. omega arith; no_object = λ e. omega arith }
+told_leaf k b false P d f g l h = record { no_leaf = λ r x. false≢true (d.1 (g r x)); not_long = l; no_list = λ e. omega arith; no_object = λ e. omega arith }
 
 pub empty_decides : (b : List ℕ) (r : Bool) → r ≡ eqb (length b) 0 → Decides r (b ≡ [])
 empty_decides [] r e = (λ t. refl, λ n. e)

@@ -8,7 +8,7 @@ use Rattle.record.specs.declared.kind.RecordKind.{RecordKind}
 use Rattle.record.specs.declared.kind.RecordKind.TheVariants.{Null, Boolean, Whole, Decimal, String, List as ListKind, Object}
 use Rattle.stored.specs.declared.header.Frame.{Frame}
 use Rattle.stored.specs.declared.stored.Target.{Target}
-use Rattle.stored.specs.Frames.{past, Framed, Unframed, Fills, FrameAt}
+use Rattle.stored.specs.Frames.{past, Framed, Fills, FrameAt, Valued, an_item, a_member, Valueless, no_record, bare_name}
 use Rattle.stored.specs.Past.{past_at}
 use Rattle.stored.specs.Cursors.{Leads, at_root, at_item, at_member, Points, Follows, FollowTold, OfFrame, TargetTold}
 use Rattle.stored.specs.OneFrame.{one_framed, inside}
@@ -46,13 +46,11 @@ leads_member {bytes} {at} {p} {x = x} {h} n a k (at_member y w z) =
     let same : p ≡ h.end = sym w ∙ ap (past at) (sym (one_framed a.framed y).1) ∙ sym a.ends in
     record { place = same; from = ap (λ q. q + 6) same; framed = subst (λ q. Framed bytes q (length bytes) (kind x) (body x)) same z }
 
-pub none_leads : {bytes : List ℕ} {at : ℕ} → at ≢ length bytes → Unframed bytes at (length bytes) → (p f : ℕ) (x : Rec) → Leads bytes at p f x → ⊥
-none_leads n u p f x (at_root q w) = n q
-none_leads n u p f x (at_item g) = u _ _ g
-none_leads n u p f x (at_member g w k) = u _ _ g
-
-pub name_leads : {bytes : List ℕ} {at : ℕ} {h : Frame} → at ≢ length bytes → FrameAt bytes at (length bytes) h → h.kind ≡ 8 → Unframed bytes h.end (length bytes) → (p f : ℕ) (x : Rec) → Leads bytes at p f x → ⊥
-name_leads n a k u p f x l = u _ _ (leads_member n a k l).framed
+pub none_leads : {bytes : List ℕ} {at : ℕ} → at ≢ length bytes → Valueless bytes at (length bytes) → (p f : ℕ) (x : Rec) → Leads bytes at p f x → ⊥
+none_leads n (no_record u) p f x (at_root q w) = n q
+none_leads n (no_record u) p f x (at_item g) = u _ _ g
+none_leads n (no_record u) p f x (at_member g w k) = u _ _ g
+none_leads n (bare_name a k u) p f x l = u _ _ (leads_member n a k l).framed
 
 points_frame : {bytes : List ℕ} {i p f : ℕ} {x : Rec} {h : Frame} {t : Target} → FrameAt bytes i (length bytes) h → OfFrame bytes i h t → Stands bytes i p f x → Points bytes p f x t
 points_frame {bytes} {i} {x = x} a o s =
@@ -75,11 +73,9 @@ follows_frame (Some t) a w s o =
     let z = a.inside in
     record { lies = omega (arith, o.from); narrow = omega arith; points = λ p f x l. points_frame a o (s p f x l) }
 
-pub follows_item : {bytes : List ℕ} {at : ℕ} {h : Frame} (o : Option Target) → at ≢ length bytes → FrameAt bytes at (length bytes) h → h.kind ≢ 8 → TargetTold bytes at h o → FollowTold bytes at o
-follows_item o n a k t = follows_frame o a (narrow_item a k) (λ p f x l. leads_item n a k l) t
-
-pub follows_member : {bytes : List ℕ} {at : ℕ} {h g : Frame} (o : Option Target) → at ≢ length bytes → FrameAt bytes at (length bytes) h → h.kind ≡ 8 → FrameAt bytes h.end (length bytes) g → TargetTold bytes h.end g o → FollowTold bytes at o
-follows_member o n a k b t = follows_frame o b (narrow_member a k b) (λ p f x l. leads_member n a k l) t
+pub follows_valued : {bytes : List ℕ} {at i : ℕ} {h : Frame} (o : Option Target) → at ≢ length bytes → Valued bytes at (length bytes) i h → TargetTold bytes i h o → FollowTold bytes at o
+follows_valued o n (an_item a k) t = follows_frame o a (narrow_item a k) (λ p f x l. leads_item n a k l) t
+follows_valued o n (a_member a k b) t = follows_frame o b (narrow_member a k b) (λ p f x l. leads_member n a k l) t
 
 points_root : (bytes : List ℕ) (at p f : ℕ) (x : Rec) (h : Target) → at ≡ length bytes → h.place ≡ 0 → h.kind ≡ Object → h.from ≡ 0 → h.body.now ≡ bytes → Leads bytes at p f x → Points bytes p f x h
 points_root bytes at p f x h e z k q b (at_root {ms = ms} d w) = record {

@@ -1,5 +1,6 @@
 -- What the turns of reading keep.
-use Rattle.std.proofs.Common.{◌≡◌, ℕ, ◌-◌, ◌<◌, ◌≤◌, Bool, true, false, List, [], ◌∷◌, ◌++◌, length, take, None, Option, Ok, Err, Result, Decides, sym, refl, ap, ◌∙◌, subst, arith}
+use Rattle.std.proofs.Common.{◌≡◌, ℕ, ◌-◌, ◌<◌, ◌≤◌, Bool, true, false, List, [], ◌∷◌, ◌++◌, length, take, Some, None, Option, Ok, Err, Result, Decides, sym, refl, ap, ◌∙◌, subst, arith}
+use Rattle.std.proofs.lemmas.Bool.{false≢true}
 use Rattle.std.proofs.lemmas.List.{take_all, drop_all}
 use Rattle.std.specs.Option.{ok_or}
 use Rattle.text.specs.declared.fault.Fault.{Fault}
@@ -15,12 +16,11 @@ use Rattle.stored.specs.declared.content.Content.{Content}
 use Rattle.stored.specs.declared.content.Content.TheVariants.{Leaf, List as ListContent, Object}
 use Rattle.stored.specs.declared.content.BodyError.{BodyError}
 use Rattle.stored.specs.declared.content.BodyError.TheVariants.{BadForm, LongNumber as LongBody}
-use Rattle.stored.specs.Frames.{Framed, body_in, FrameAt}
+use Rattle.stored.specs.Frames.{Framed, body_in, FrameAt, FrameTold}
 use Rattle.stored.specs.Contents.{IsLeaf, Sensible, a_leaf, a_list, an_object, fault_at, ContentTold}
 use Rattle.stored.specs.Outcomes.{got, fails, NameAt, Unnamed, Reads, r_bad, r_long, r_leaf, r_items, r_members, ReadsItems, i_end, i_fails, i_more, ReadsMembers, m_end, m_fails, m_more}
 use Rattle.stored.specs.Told.{Blames, ValueAt, NewName}
 use Rattle.stored.specs.OneFrame.{one_framed}
-use Rattle.stored.proofs.CoForms.{untrue}
 
 -- a blame that is passed on
 pub blames_on : (g : Fault) (P Q : Fault → Type 0) → ((f : Fault) → P f → Q f) → Blames g P → Blames g Q
@@ -32,22 +32,25 @@ blames_on (LongNumber k) P Q m x = m (LongNumber k) x
 blames_on NoMemory P Q m x = tt
 
 -- the header that was found, or that there is none
+pub found : {bytes : List ℕ} {i to : ℕ} {o : Option Frame} {h : Frame} → o ≡ Some h → FrameTold bytes i to o → FrameAt bytes i to h
+found {bytes} {i} {to} e f = subst (FrameTold bytes i to) e f
+
 pub ok_or_none : {o : Option Frame} {e f : Fault} → Err e ≡ ok_or o f → o ≡ None → e ≡ f
 ok_or_none {o} {e} {f} v n = let w : ◌≡◌ {A = Result Frame Fault} (Err e) (Err f) = subst (λ x. Err e ≡ ok_or x f) n v in cc
 
 -- NAMES
 
 pub other_kind : {bytes : List ℕ} {i to : ℕ} {h : Frame} {r : Bool} → FrameAt bytes i to h → Decides r (h.kind ≡ 8) → r ≡ false → Unnamed bytes i to
-other_kind f d e n a = untrue (sym e ∙ d.1 (one_framed f.framed a.framed).0)
+other_kind f d e n a = false≢true (sym e ∙ d.1 (one_framed f.framed a.framed).0)
 
 pub not_formed : {bytes xs : List ℕ} {i to : ℕ} {h : Frame} {r : Bool} → FrameAt bytes i to h → xs ≡ body_in bytes h → Decides r (NameLimits xs) → r ≡ false → Unnamed bytes i to
-not_formed f x d e n a = untrue (sym e ∙ d.1 (subst NameLimits (sym (x ∙ (one_framed f.framed a.framed).1)) a.within))
+not_formed f x d e n a = false≢true (sym e ∙ d.1 (subst NameLimits (sym (x ∙ (one_framed f.framed a.framed).1)) a.within))
 
 pub name_at : {bytes xs : List ℕ} {i to : ℕ} {h : Frame} {r : Bool} → FrameAt bytes i to h → h.kind ≡ 8 → xs ≡ body_in bytes h → Decides r (NameLimits xs) → r ≡ true → NameAt bytes i to (body_in bytes h)
 name_at {bytes} {i = i} {to} {h} f k x d t = record { framed = subst (λ n. Framed bytes i to n (body_in bytes h)) k f.framed; within = subst NameLimits x (d.0 t) }
 
 pub has_it : (bytes : List ℕ) (base : ℕ) (before after : List Link) (h : Frame) (b : Bool) → b ≡ false → AddTold bytes [] base before after (Text h.from h.end) (Ok b) → h.from ≤ h.end → h.end ≤ length bytes → Sound bytes [] before base → has (names_from bytes [] before base) (body_in bytes h) ≡ true
-has_it bytes base before after h true f t l m s = absurd (untrue (sym f))
+has_it bytes base before after h true f t l m s = absurd (false≢true (sym f))
 has_it bytes base before after h false f t l m s = t.1 (l, m) s
 
 -- VALUES

@@ -1,6 +1,6 @@
 // The headers of records: the length of the body in four bytes and the kind in two, little-endian.
 ghost use Rattle.std.specs.Prelude.{◌≡◌, ◌≤◌, length, Decides};
-ghost use Rattle.stored.specs.Frames.{FrameTold, body_in};
+ghost use Rattle.stored.specs.Frames.{FrameTold, ValuedTold, body_in};
 
 use record::kind::{HEADER, RecordKind};
 
@@ -48,4 +48,16 @@ pub fn header(bytes: &[u8], at: usize, to: usize) -> Option<Frame>
         from,
         end: from + size,
     })
+}
+
+// The record of the value of what starts at `at`, an item or a member with its name: its place and its frame.
+pub fn valued(bytes: &[u8], at: usize, to: usize) -> Option<(usize, Frame)>
+    ensures { ValuedTold bytes.now at to result }
+{
+    let first = header(bytes, at, to)?;
+    if !first.is_name() {
+        return Some((at, first));
+    }
+    let second = header(bytes, first.end, to)?;
+    Some((first.end, second))
 }

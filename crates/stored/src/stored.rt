@@ -11,7 +11,7 @@ ghost use Rattle.stored.specs.Past.{past_at};
 ghost use Rattle.stored.specs.Laws.{StoredTold, ReadsOnce, ReadsBack, AcceptsBack};
 ghost use Rattle.stored.specs.OneTree.{lawful};
 
-use crate::header::{Frame, header};
+use crate::header::{Frame, header, valued};
 use crate::reading::Reader;
 use names::names::Names;
 use record::kind::{RecordKind, SCALE};
@@ -119,12 +119,8 @@ impl<'a> Stored<'a> {
                 body: bytes,
             });
         }
-        let first = header(bytes, at, bytes.len())?;
-        if !first.is_name() {
-            return Target::new(bytes, at, first);
-        }
-        let second = header(bytes, first.end, bytes.len())?;
-        Target::new(bytes, first.end, second)
+        let (place, frame) = valued(bytes, at, bytes.len())?;
+        Target::new(bytes, place, frame)
     }
 
     // The first member with the name among the members of the span.
@@ -208,21 +204,11 @@ impl Source for Stored<'_> {
 
     fn next(&self, span: Span) -> Option<(usize, Span)> {
         let Span { from, to } = span;
-        let first = header(self.bytes, from, to)?;
-        if !first.is_name() {
-            return Some((
-                from,
-                Span {
-                    from: first.end,
-                    to,
-                },
-            ));
-        }
-        let second = header(self.bytes, first.end, to)?;
+        let (_, frame) = valued(self.bytes, from, to)?;
         Some((
             from,
             Span {
-                from: second.end,
+                from: frame.end,
                 to,
             },
         ))

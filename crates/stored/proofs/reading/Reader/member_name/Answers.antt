@@ -2,7 +2,7 @@ use Rattle.std.proofs.Common.{vec_items, subst}
 use Rattle.std.proofs.lemmas.Result.{err_from_is_err_and}
 use Rattle.stored.specs.Frames.{FrameTold}
 use Rattle.stored.specs.Outcomes.{m_unnamed, m_repeated}
-use Rattle.stored.proofs.RdSteps.{ok_or_none, other_kind, not_formed, name_at, has_it}
+use Rattle.stored.proofs.RdSteps.{found, ok_or_none, other_kind, not_formed, name_at, has_it}
 use Rattle.stored.proofs.reading.Reader.member_name.Goals as goal
 use Rattle.stored.proofs.reading.Reader.member_name.Goals.{then-not-is_name-via-then-not-is_name, then-not-is_name-via-else-not-is_name+then-not-name_form}
 
@@ -15,7 +15,7 @@ returns-in_err-frame-clause-told c =
 
 pub returns-then-not-is_name-clause-told : goal.returns-then-not-is_name-clause-told
 returns-then-not-is_name-clause-told c d h =
-    let f = subst (FrameTold c.args.self.now.bytes.now c.args.at c.args.to) c.in_ok-frame.ensures.ok_part c.header.ensures in
+    let f = found c.in_ok-frame.ensures.ok_part c.header.ensures in
     m_unnamed h
     (elim c.then-not-is_name.branch [
       | then-not-is_name-via-then-not-is_name w ↦ other_kind f c.is_name.ensures w.if-not-is_name.true
@@ -24,6 +24,6 @@ returns-then-not-is_name-clause-told c d h =
 
 pub returns-then-not-added-clause-told : goal.returns-then-not-added-clause-told
 returns-then-not-added-clause-told c d h =
-    let f = subst (FrameTold c.args.self.now.bytes.now c.args.at c.args.to) c.in_ok-frame.ensures.ok_part c.header.ensures in
+    let f = found c.in_ok-frame.ensures.ok_part c.header.ensures in
     m_repeated h (name_at f (c.is_name.ensures.0 c.if-not-is_name.false) c.body.ensures c.name_form.ensures c.if-not-name_form.false)
     (has_it c.args.self.now.bytes.now c.args.base (vec_items c.args.self.now.names.links) (vec_items c.add.new.self.links) c.in_ok-frame.frame c.in_ok-added.added c.if-not-added.true c.in_ok-added.ensures f.forward f.inside c.requires.sound)
