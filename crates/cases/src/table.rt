@@ -53,10 +53,11 @@ fn number(digits: &[u8]) -> Option<usize> {
 fn byte(first: u8, after: &[u8]) -> (u8, &[u8])
     ensures { length result.1.now ≤ length after.now }
 {
-    if let (b'\\', [b'x', high, low, rest @ ..]) = (first, after) {
-        if let Ok([b]) = <[u8; 1]>::from_hex([*high, *low]) {
-            return (b, rest);
-        }
+    if first == b'\\'
+        && let [b'x', high, low, rest @ ..] = after
+        && let Ok(bytes) = <[u8; 1]>::from_hex([*high, *low])
+    {
+        return (bytes[0], rest);
     }
     (first, after)
 }
