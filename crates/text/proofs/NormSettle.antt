@@ -1,5 +1,5 @@
 -- From the parts of a number to its normal form.
-use Rattle.std.proofs.Common.{◌≡◌, ℕ, zero, suc, ◌-◌, ◌*◌, ◌^◌, ◌<◌, ◌≤◌, Bool, true, false, cond, eqb, ◌≢◌, List, [], ◌∷◌, ◌++◌, length, get_or, take, drop, replicate, ℤ, pos, negsuc, ◌+ℤ◌, ◌-ℤ◌, sym, refl, ap, ◌∙◌, subst, inl, inr, append-nil, mul-pos, zero-mul, mul-one, arith, length-drop}
+use Rattle.std.proofs.Common.{◌≡◌, ℕ, zero, suc, ◌-◌, ◌*◌, ◌^◌, ◌<◌, Bool, true, false, cond, eqb, ◌≢◌, List, [], ◌∷◌, ◌++◌, length, get_or, take, drop, replicate, ℤ, pos, negsuc, ◌+ℤ◌, ◌-ℤ◌, sym, refl, ap, ◌∙◌, subst, inl, inr, append-nil, mul-pos, zero-mul, mul-one, arith, length-drop}
 use native.Mathlib.Nat.{pow-succ'}
 use Rattle.std.proofs.lemmas.List.{length-take-le, take-take, take_all, take-append-drop}
 use Rattle.std.proofs.lemmas.Int.{ints}
@@ -8,7 +8,7 @@ use Rattle.text.specs.declared.decimal.Parts.{Parts}
 use Rattle.text.specs.NumberWorth.{after, value, Writes, Equal, SameWorth, below}
 use Rattle.text.specs.NormalForm.{Each, Signs, Split, start_of, Held, Grown, Trimmed, form_zero, form, Within, Added}
 use Rattle.std.proofs.lemmas.List.{nil_from_length}
-use Rattle.text.proofs.LexBase.{gone, length_part}
+use Rattle.text.proofs.LexBase.{gone}
 use Rattle.text.proofs.NormValues.{after_is, Left, left, positive, held_none, trim_all, trim_last}
 use Rattle.text.proofs.NormCuts.{unsigned_true, unsigned_false, int_first}
 use Rattle.text.specs.Cuts.{part}

@@ -1,7 +1,7 @@
 -- Laws of the value of digits.
-use Rattle.std.proofs.Common.{◌≡◌, ℕ, zero, suc, ◌+◌, ◌-◌, ◌*◌, ◌^◌, ◌<◌, ◌≤◌, Bool, true, false, ◌≢◌, List, [], ◌∷◌, ◌++◌, length, get_or, take, drop, replicate, ℤ, pos, neg_ℤ, nat_abs, sym, refl, ap, ◌∙◌, subst, mul_assoc, add-mul, add-one, arith, length-append, length-drop, drop-cons}
+use Rattle.std.proofs.Common.{◌≡◌, ℕ, zero, suc, ◌+◌, ◌-◌, ◌*◌, ◌^◌, ◌<◌, ◌≤◌, Bool, true, false, ◌≢◌, List, [], ◌∷◌, ◌++◌, length, get_or, take, drop, replicate, ℤ, pos, neg_ℤ, nat_abs, sym, refl, ap, ◌∙◌, subst, mul_assoc, add-mul, arith, length-append, length-drop}
 use native.Mathlib.Nat.{pow-succ'}
-use Rattle.std.proofs.lemmas.List.{take_more, get_or-drop, take-append-drop, drop-drop, drop-append-le, take-append-le, take_all, get_or-take, get_or_append_left, length-take-le, take-take, nil_from_length}
+use Rattle.std.proofs.lemmas.List.{take_more, get_or-drop, take-append-drop, drop-append-le, take-append-le, get_or-take, get_or_append_left, length-take-le, take-take}
 use Rattle.text.specs.NumberGrammar.{IsDigit, Digits, none, digit}
 use Rattle.text.specs.NumberWorth.{after, value, Power, no_power, plain, more, less}
 use Rattle.text.specs.NormalForm.{Each, Held, Led, Grown, Trimmed, signed}
