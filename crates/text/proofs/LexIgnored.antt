@@ -4,7 +4,7 @@ use lib.Utf8.{encode}
 use Rattle.std.specs.Bool.{MatchBool, then_some}
 use Rattle.std.proofs.lemmas.Str.{char_from_byte, length-encode, len_utf8_bounds}
 use Rattle.text.specs.StringGrammar.{Utf8Char, utf8, LineTerminator}
-use Rattle.text.specs.StringDecode.{Exactly, Nothing}
+use Rattle.text.specs.StringDecode.{Exactly}
 use Rattle.text.specs.TokenGrammar.{CommentCode, CommentChar, comment_char_rule, CommentRest, comment_ends, comment_breaks, comment_goes, Comment, number_sign, IgnoredByte, ByteOrderMark, GraphqlIgnored, unicode_bom, ignored_byte_rule, ignored_comment}
 use Rattle.text.specs.TokenFound.{StepAt, StepTold}
 use Rattle.text.proofs.StrUtf8.{utf8_same}

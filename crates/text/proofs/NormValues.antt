@@ -1,11 +1,12 @@
 -- Laws of the value of digits.
-use Rattle.std.proofs.Common.{◌≡◌, ℕ, zero, suc, ◌+◌, ◌-◌, ◌*◌, ◌^◌, ◌<◌, ◌≤◌, Bool, true, false, ◌≢◌, List, [], ◌∷◌, ◌++◌, length, get_or, take, drop, replicate, ℤ, pos, neg_ℤ, nat_abs, sym, refl, ap, ◌∙◌, subst, mul_assoc, add-mul, add-one, arith, length-append, length-drop, drop-cons}
+use Rattle.std.proofs.Common.{◌≡◌, ℕ, zero, suc, ◌+◌, ◌-◌, ◌*◌, ◌^◌, ◌<◌, ◌≤◌, Bool, true, false, ◌≢◌, List, [], ◌∷◌, ◌++◌, length, get_or, take, drop, replicate, ℤ, pos, neg_ℤ, nat_abs, sym, refl, ap, ◌∙◌, subst, mul_assoc, add-mul, arith, length-append, length-drop}
 use native.Mathlib.Nat.{pow-succ'}
-use Rattle.std.proofs.lemmas.List.{take_more, get_or-drop, take-append-drop, drop-drop, drop-append-le, take-append-le, take_all, get_or-take, get_or_append_left, length-take-le, take-take}
+use Rattle.std.proofs.lemmas.List.{take_more, get_or-drop, take-append-drop, drop-append-le, take-append-le, get_or-take, get_or_append_left, length-take-le, take-take}
 use Rattle.text.specs.NumberGrammar.{IsDigit, Digits, none, digit}
 use Rattle.text.specs.NumberWorth.{after, value, Power, no_power, plain, more, less}
 use Rattle.text.specs.NormalForm.{Each, Held, Led, Grown, Trimmed, signed}
 use Rattle.text.specs.Cuts.{part}
+use Rattle.text.proofs.LexBase.{there, gone}
 
 pub after-append : (v : ℕ) (xs ys : List ℕ) → after v (xs ++ ys) ≡ after (after v xs) ys
 after-append v [] ys = refl
@@ -35,15 +36,6 @@ after-zeros v (suc r) =
 
 pub value-zeros : (ds : List ℕ) (r : ℕ) → value (ds ++ replicate r 48) ≡ value ds * 10 ^ r
 value-zeros ds r = after-append 0 ds (replicate r 48) ∙ after-zeros (value ds) r
-
--- the text from i on, by one more byte
-pub drop_more : (text : List ℕ) (i : ℕ) → i < length text → drop i text ≡ get_or text i 0 ∷ drop (i + 1) text
-drop_more text i h = rw add-one (drop-cons text i 0 h)
-
-pub rest_is : (text : List ℕ) (i j : ℕ) → i ≤ j → drop i text ≡ part text i j ++ drop j text
-rest_is text i j h =
-    let there : i + (j - i) ≡ j = omega arith in
-    sym (take-append-drop (j - i) (drop i text)) ∙ ap (λ l. part text i j ++ l) (drop-drop (j - i) i text ∙ ap (λ n. drop n text) there)
 
 pub each_of : {ds : List ℕ} → Digits ds → Each ds
 each_of none k h = absurd (omega arith)
@@ -93,13 +85,6 @@ held_zero {ds} {v} h e =
     let n : v ≡ v * 10 + (48 - 48) = omega arith in
     record { each = h.each; led = h.led; worth = h.worth ∙ n }
 
-pub length-zero : (xs : List ℕ) → length xs ≡ 0 → xs ≡ []
-length-zero [] h = refl
-length-zero (x ∷ xs) h = absurd (omega arith)
-
-pub drop_past : (text : List ℕ) (at : ℕ) → length text ≤ at → drop at text ≡ []
-drop_past text at h = length-zero (drop at text) (omega (arith, length-drop at text))
-
 -- the sign and the digits of an exponent
 pub led_minus : (text : List ℕ) (at : ℕ) → at < length text → drop at text ≡ 45 ∷ drop (at + 1) text → Led text at true (at + 1)
 led_minus text at h b = record { within = omega arith; power = λ e p q. by_minus (subst (λ x. Power (e ∷ x) p) b q) }
@@ -117,7 +102,7 @@ by_nothing no_power = refl
 pub zeros_more : (xs : List ℕ) (n : ℕ) → n < length xs → get_or xs n 0 ≡ 48 → drop (n + 1) xs ≡ replicate (length xs - (n + 1)) 48 → drop n xs ≡ replicate (length xs - n) 48
 zeros_more xs n h b e =
     let one : suc (length xs - (n + 1)) ≡ length xs - n = omega arith in
-    drop_more xs n h ∙ ap (λ d. d ∷ drop (n + 1) xs) b ∙ ap (λ l. 48 ∷ l) e ∙ ap (λ k. replicate k 48) one
+    there xs n h ∙ ap (λ d. d ∷ drop (n + 1) xs) b ∙ ap (λ l. 48 ∷ l) e ∙ ap (λ k. replicate k 48) one
 
 -- the turns of `add`
 pub record Filled (base : ℕ) (before ds text : List ℕ) (i : ℕ) : Type 0 where
@@ -162,7 +147,7 @@ filled_all base before ds text i f l e = record {
 }
 
 pub nothing_past : (base : ℕ) (ds : List ℕ) → length ds ≤ base → drop base ds ≡ []
-nothing_past base ds h = drop_past ds base h
+nothing_past base ds h = gone ds base h
 
 pub something_past : (base : ℕ) (ds : List ℕ) → base < length ds → drop base ds ≡ [] → ⊥
 something_past base ds h e = omega (arith, length-drop base ds, ap length e)
@@ -239,6 +224,3 @@ trim_more xs from rest t h b =
       is = ap (take (n - 1)) front ∙ take-take (n - 1) n (drop from xs) (omega arith) ∙ sym (ap (λ k. take k (drop from xs)) q);
       zeros = subst (λ (k : ℕ). drop k xs ≡ replicate (length xs - k) 48) (let e : from + n - 1 ≡ from + length (take (n - 1) rest) = omega arith in e) (zeros_less xs (from + n) (omega arith) t.within last t.zeros);
     }
-
-pub part_end : (text : List ℕ) (i : ℕ) → part text i (length text) ≡ drop i text
-part_end text i = take_all (length text - i) (drop i text) (omega (arith, length-drop i text))

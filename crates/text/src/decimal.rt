@@ -1,5 +1,5 @@
 // Normal forms of numbers.
-ghost use Rattle.std.specs.Prelude.{◌≡◌, ℕ, ◌+◌, ◌<◌, ◌≤◌, length, drop, ℤ, pos, ◌+ℤ◌, ◌-ℤ◌, vec_len, vec_capacity, unsigned_abs};
+ghost use Rattle.std.specs.Prelude.{◌≡◌, ◌+◌, ◌<◌, ◌≤◌, length, drop, ℤ, pos, ◌+ℤ◌, ◌-ℤ◌, vec_capacity, unsigned_abs};
 ghost use Rattle.text.specs.declared.number.NumberKind.TheVariants.{Whole};
 ghost use Rattle.text.specs.NumberGrammar.{Number};
 ghost use Rattle.text.specs.NumberWorth.{NumbersWrite, WritersAreNumbers, WritesOnce, WorthIsEquivalence};

@@ -1,5 +1,5 @@
 // The tokens of GraphQL.
-ghost use Rattle.std.specs.Prelude.{◌≡◌, ℕ, ◌+◌, ◌<◌, ◌≤◌, length, IfOk, MatchBool, slice_index};
+ghost use Rattle.std.specs.Prelude.{◌≡◌, ◌+◌, ◌<◌, ◌≤◌, length, IfOk, MatchBool, slice_index};
 ghost use Rattle.text.specs.Places.{Placed, is_end};
 ghost use Rattle.text.specs.StringGrammar.{LineTerminator};
 ghost use Rattle.text.specs.TokenGrammar.{NumberFirst, NumberGoesOn, NameStart, NameContinue, CommentCode, CommentChar, Comment, IgnoredByte, ByteOrderMark, GraphqlIgnored, Punctuator};

@@ -1,7 +1,7 @@
 // The tokens of JSON.
-ghost use Rattle.std.specs.Prelude.{◌≡◌, ℕ, ◌+◌, ◌<◌, ◌≤◌, length, IfOk, MatchBool, slice_index};
+ghost use Rattle.std.specs.Prelude.{◌≡◌, ◌+◌, ◌<◌, ◌≤◌, length, IfOk, MatchBool, slice_index};
 ghost use Rattle.text.specs.Places.{Placed, is_end};
-ghost use Rattle.text.specs.TokenGrammar.{NumberFirst, WhiteSpace, Structural, LiteralName};
+ghost use Rattle.text.specs.TokenGrammar.{WhiteSpace, Structural, LiteralName};
 ghost use Rattle.text.specs.TokenFound.{Skipped, MarkTold, FoundHere, TokenTold};
 ghost use Rattle.text.specs.declared.language.Language.TheVariants.{Json};
 

@@ -3,7 +3,8 @@ use Rattle.std.proofs.lemmas.Int.{to_z-of_z}
 use Rattle.std.proofs.lemmas.Result.{err_from_is_err_and}
 use Rattle.text.specs.NumberWorth.{after, Power, Writes}
 use Rattle.text.specs.NormalForm.{Powered, Within, Grown, Trimmed}
-use Rattle.text.proofs.NormSettle.{Aligned, aligned, amount_is, worth_is, length_part, Settled, settled, unadded, added_zero, added_some}
+use Rattle.text.proofs.LexBase.{length_part}
+use Rattle.text.proofs.NormSettle.{Aligned, aligned, amount_is, worth_is, Settled, settled, unadded, added_zero, added_some}
 use Rattle.text.proofs.decimal.normal.Goals.{After-locate-start, In_ok-power, After-truncate}
 use Rattle.text.proofs.decimal.normal.Goals as goal
 use Rattle.text.specs.Cuts.{part}
@@ -84,6 +85,6 @@ returns c =
       worth_is a _ (c.len.result - c.trimmed-end.result) (c.locate-start.result.mark - c.locate-start.result.places) (length w.ds) s w.p (to_z w32 (of_z w32 c.in_ok-power.power)) (to_z w32 (of_z w32 c.exponent.result)) (drop c.len-base.result (vec_items c.truncate.new.self))
           (amount_is w l) settle.left.worth w.scales
           (q ∙ (power_is at.In_ok-power n a s w l).1)
-          (sym (length_part c.args.text.now c.locate-start.result.places c.locate-start.result.mark stands.third stands.within) ∙ ap length l.places)
+          (sym (length_part c.args.text.now c.locate-start.result.places c.locate-start.result.mark stands.within) ∙ ap length l.places)
           (x ∙ c.exponent.ensures),
     ))

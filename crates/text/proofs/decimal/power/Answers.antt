@@ -3,21 +3,23 @@ use Rattle.text.specs.NormalForm.{Each}
 use Rattle.text.specs.NormalForm.{signed, Sized}
 use Rattle.std.proofs.lemmas.Int.{ints}
 use Rattle.text.specs.NumberWorth.{Power, value}
-use Rattle.text.proofs.NormValues.{part_end, by_nothing, drop_past, drop_more, nat_abs-neg, nat_abs-signed}
+use Rattle.std.proofs.lemmas.List.{take_rest}
+use Rattle.text.proofs.LexBase.{there, gone}
+use Rattle.text.proofs.NormValues.{by_nothing, nat_abs-neg, nat_abs-signed}
 use Rattle.text.proofs.decimal.power.Goals.{After-size}
 use Rattle.text.proofs.decimal.power.Goals as goal
 use Rattle.text.specs.Cuts.{part}
 
 pub returns-then-at-text : goal.returns-then-at-text
-returns-then-at-text c = (omega arith, λ p q. by_nothing (subst (λ (x : List ℕ). Power x p) (drop_past c.args.text.now c.args.at c.if-at-text.true) q))
+returns-then-at-text c = (omega arith, λ p q. by_nothing (subst (λ (x : List ℕ). Power x p) (gone c.args.text.now c.args.at c.if-at-text.true) q))
 
 -- the exponent has the sign and the digits that `lead` and `size` found
 stands : (c : After-size) (p : ℤ) → Power (drop c.args.at c.args.text.now) p → (p ≡ signed c.lead-less.result.0 (value (drop c.lead-less.result.1 c.args.text.now))) × Each (drop c.lead-less.result.1 c.args.text.now)
-stands c p q = c.lead-less.ensures.power (get_or c.args.text.now c.args.at 0) p (subst (λ (x : List ℕ). Power x p) (drop_more c.args.text.now c.args.at c.if-at-text.false) q)
+stands c p q = c.lead-less.ensures.power (get_or c.args.text.now c.args.at 0) p (subst (λ (x : List ℕ). Power x p) (there c.args.text.now c.args.at c.if-at-text.false) q)
 
 -- `size` was given the bytes from there on
 sized : (c : After-size) (r : Option ℕ) → Sized (part c.args.text.now c.lead-less.result.1 (length c.args.text.now)) r → Sized (drop c.lead-less.result.1 c.args.text.now) r
-sized c r = subst (λ (x : List ℕ). Sized x r) (part_end c.args.text.now c.lead-less.result.1)
+sized c r = subst (λ (x : List ℕ). Sized x r) (take_rest c.args.text.now c.lead-less.result.1)
 
 pub returns-in_err-size : goal.returns-in_err-size
 returns-in_err-size c = rw c.from_residual.ensures (λ p q.
