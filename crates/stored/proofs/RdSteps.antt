@@ -1,7 +1,6 @@
 -- What the turns of reading keep.
 use Rattle.std.proofs.Common.{◌≡◌, ℕ, ◌-◌, ◌<◌, ◌≤◌, Bool, true, false, List, [], ◌∷◌, ◌++◌, length, take, Some, None, Option, Ok, Err, Result, Decides, sym, refl, ap, ◌∙◌, subst, arith}
 use Rattle.std.proofs.lemmas.Bool.{false≢true}
-use Rattle.std.proofs.lemmas.List.{take_all, drop_all}
 use Rattle.std.specs.Option.{ok_or}
 use Rattle.text.specs.declared.fault.Fault.{Fault}
 use Rattle.text.specs.declared.fault.Fault.TheVariants.{BadText, TooDeep, NoSpace, RepeatedName, LongNumber, NoMemory}
@@ -9,8 +8,7 @@ use Rattle.model.specs.Values.{Rec, Recs, Rmems, r_list, r_object, r_nil, r_cons
 use Rattle.model.specs.Limits.{NameLimits}
 use Rattle.names.specs.declared.names.Link.{Link}
 use Rattle.names.specs.declared.part.Part.TheVariants.{Text}
-use Rattle.names.specs.Index.{Sound, AddTold, names_of, names_from}
-use Rattle.names.proofs.Growth.{sound_none}
+use Rattle.names.specs.Index.{Sound, AddTold, names_from}
 use Rattle.stored.specs.declared.header.Frame.{Frame}
 use Rattle.stored.specs.declared.content.Content.{Content}
 use Rattle.stored.specs.declared.content.Content.TheVariants.{Leaf, List as ListContent, Object}
@@ -107,9 +105,6 @@ pub record SofarItems (bytes : List ℕ) (d i here to : ℕ) : Type 0 where
   pub reads : (rs : Recs) → ReadsItems bytes d here to (got to rs) → (ss : Recs) × ReadsItems bytes d i to (got to ss)
   pub faults : (f : Fault) → ReadsItems bytes d here to (fails f) → ReadsItems bytes d i to (fails f)
 
-pub items_start : {bytes : List ℕ} {d i to : ℕ} → i ≤ to → SofarItems bytes d i i to
-items_start h = record { within = h; reads = λ rs x. (rs, x); faults = λ f x. x }
-
 pub items_step : {bytes : List ℕ} {d i here to e : ℕ} → SofarItems bytes d i here to → here < to → ValueAt bytes d here to e → SofarItems bytes d i e to
 items_step s h v = record {
   within = v.within;
@@ -134,18 +129,6 @@ pub record SofarMembers (bytes : List ℕ) (d i here to base : ℕ) (entry links
   pub reads : (ms : Rmems) → ReadsMembers bytes d (names_from bytes [] links base) here to (got to ms) → (ks : Rmems) × ReadsMembers bytes d [] i to (got to ks)
   pub faults : (f : Fault) → ReadsMembers bytes d (names_from bytes [] links base) here to (fails f) → ReadsMembers bytes d [] i to (fails f)
 
-pub members_start : {bytes : List ℕ} {d i to base : ℕ} {links : List Link} → i ≤ to → base ≡ length links → SofarMembers bytes d i i to base links links
-members_start {bytes} {d} {i} {to} {base} {links} h e =
-    let none : names_from bytes [] links base ≡ [] = ap (names_of bytes []) (drop_all base links (omega arith)) in
-    record {
-      within = h;
-      sound = sound_none bytes [] links base e;
-      longer = omega arith;
-      below = take_all base links (omega arith);
-      reads = λ ms x. (ms, subst (λ ns. ReadsMembers bytes d ns i to (got to ms)) none x);
-      faults = λ f x. subst (λ ns. ReadsMembers bytes d ns i to (fails f)) none x;
-    }
-
 pub members_step : {bytes : List ℕ} {d i here to base c e : ℕ} {entry links mid after : List Link} → SofarMembers bytes d i here to base entry links → here < to → NewName bytes here to base c links mid → ValueAt bytes d c to e → after ≡ mid → SofarMembers bytes d i e to base entry after
 members_step {bytes} {d} {i} {here} {to} {base} {c} {e} {entry} {links} {mid} {after} s h n v k =
     let a = n.added in
@@ -159,10 +142,6 @@ members_step {bytes} {d} {i} {here} {to} {base} {c} {e} {entry} {links} {mid} {a
       reads = λ ms x. s.reads (r_mem n.name v.value ms) (m_more h n.stands a.fresh n.ends v.reads (subst (λ l. ReadsMembers bytes d l e to (got to ms)) on x) refl);
       faults = λ f x. s.faults f (m_more h n.stands a.fresh n.ends v.reads (subst (λ l. ReadsMembers bytes d l e to (fails f)) on x) refl);
     }
-
-pub name_blamed : {bytes : List ℕ} {d i here to base : ℕ} {entry links : List Link} → SofarMembers bytes d i here to base entry links → here < to → (g : Fault) → Blames g (λ x. (n : ℕ) → here < to → ReadsMembers bytes n (names_from bytes [] links base) here to (fails x)) → Blames g (λ x. ReadsMembers bytes d [] i to (fails x))
-name_blamed {bytes} {d} {i} {here} {to} {base} {links = links} s h g x =
-    blames_on g (λ y. (n : ℕ) → here < to → ReadsMembers bytes n (names_from bytes [] links base) here to (fails y)) (λ y. ReadsMembers bytes d [] i to (fails y)) (λ y r. s.faults y (r d h)) x
 
 pub members_blamed : {bytes : List ℕ} {d i here to base c : ℕ} {entry links mid : List Link} → SofarMembers bytes d i here to base entry links → here < to → NewName bytes here to base c links mid → (g : Fault) → Blames g (λ x. Reads bytes d c to (fails x)) → Blames g (λ x. ReadsMembers bytes d [] i to (fails x))
 members_blamed {bytes} {d} {i} {here} {to} {base} {c} s h n g x =

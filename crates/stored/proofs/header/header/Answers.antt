@@ -1,5 +1,5 @@
 use Rattle.std.proofs.Common.{arith}
-use Rattle.stored.proofs.FrLaws.{frame_in}
+use Rattle.stored.proofs.FrLaws.{frame_in, overlong}
 use Rattle.stored.proofs.header.header.Goals as goal
 
 pub returns : goal.returns
@@ -10,3 +10,9 @@ returns c =
     (record { is = g.2; long = g.3; within = g.1 }) (omega arith) c.in-0.len_at_least
     (record { s0 = (c.type_inv.bytes c.args.at).fits; s1 = (c.type_inv.bytes _).fits; s2 = (c.type_inv.bytes _).fits; s3 = (c.type_inv.bytes _).fits })
     c.from_le_bytes-size.ensures (grind arith) (grind arith)
+
+pub returns-then-size-rest : goal.returns-then-size-rest
+returns-then-size-rest c =
+    let g = c.in_ok-get.ensures.lookup.0 in
+    overlong c.args.bytes.now c.in_ok-get.field-0.now c.args.at c.args.to c.min-to.result c.from_le_bytes-size.result
+    (record { is = g.2; long = g.3; within = g.1 }) c.min-to.ensures c.in-0.len_at_least c.from_le_bytes-size.ensures (grind arith)
