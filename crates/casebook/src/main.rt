@@ -34,7 +34,7 @@ impl From<RequestFault> for Stop {
 
 impl From<AllocError> for Stop {
     fn from(_error: AllocError) -> Stop {
-        refused(0)
+        refused(None)
     }
 }
 
@@ -44,12 +44,11 @@ impl From<anyhow::Error> for Stop {
     }
 }
 
-// A refusal has a number; 0 stands for want of memory.
-fn refused(number: u8) -> Stop {
-    if number == 0 {
-        Stop::Failed(anyhow!("no memory"))
-    } else {
-        Stop::Refused(number)
+// A refusal has a number; want of memory has none.
+fn refused(number: Option<u8>) -> Stop {
+    match number {
+        Some(number) => Stop::Refused(number),
+        None => Stop::Failed(anyhow!("no memory")),
     }
 }
 

@@ -14,8 +14,14 @@ pub fn characters(heap: Global, bytes: &[u8]) -> Result<String, AllocError> {
     bytes.iter().copied().map(char::from).collect(heap)
 }
 
-// A refusal: its number, its layer and its place.
-fn refusal(heap: Global, number: u8, layer: Layer, place: usize) -> Result<String, AllocError> {
+// A refusal: its number, 0 for want of memory, its layer and its place.
+fn refusal(
+    heap: Global,
+    number: Option<u8>,
+    layer: Layer,
+    place: usize,
+) -> Result<String, AllocError> {
+    let number = number.unwrap_or(0);
     format!(in heap; "refused {number} {layer} {place}")
 }
 

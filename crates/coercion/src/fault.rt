@@ -39,20 +39,20 @@ impl From<Fault> for ValueFault {
 }
 
 impl ValueFault {
-    // The number of the refusal.
-    pub fn number(self) -> u8
+    // The number of the refusal; none for want of memory, which is no refusal.
+    pub fn number(self) -> Option<u8>
         ensures { result ≡ number_of self }
     {
         match self {
             ValueFault::Text(fault) => fault.number(),
-            ValueFault::TooDeep(_) => 2,
-            ValueFault::NoSpace(_) => 3,
-            ValueFault::NullValue(_) => 11,
-            ValueFault::WrongValue(_) => 12,
-            ValueFault::UnknownKey(_) => 13,
-            ValueFault::MissingField(_) => 14,
-            ValueFault::ScalarRefused(_) => 15,
-            ValueFault::VariableInValue(_) => 17,
+            ValueFault::TooDeep(_) => Some(2),
+            ValueFault::NoSpace(_) => Some(3),
+            ValueFault::NullValue(_) => Some(11),
+            ValueFault::WrongValue(_) => Some(12),
+            ValueFault::UnknownKey(_) => Some(13),
+            ValueFault::MissingField(_) => Some(14),
+            ValueFault::ScalarRefused(_) => Some(15),
+            ValueFault::VariableInValue(_) => Some(17),
         }
     }
 

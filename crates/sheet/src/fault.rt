@@ -42,14 +42,14 @@ impl From<AllocError> for RequestFault {
 }
 
 impl RequestFault {
-    // The number of the refusal; 0 for want of memory, which is none.
-    pub fn number(self) -> u8
+    // The number of the refusal; none for want of memory, which is no refusal.
+    pub fn number(self) -> Option<u8>
         ensures { result ≡ number_of self }
     {
         match self {
             RequestFault::Value(fault) => fault.number(),
-            RequestFault::MissingVariable { .. } => 10,
-            RequestFault::NoMemory => 0,
+            RequestFault::MissingVariable { .. } => Some(10),
+            RequestFault::NoMemory => None,
         }
     }
 

@@ -9,6 +9,7 @@ use record::kind::{RecordKind, SCALE, UnknownKind};
 use source::limits::LONGEST_NAME;
 use std::str::from_utf8;
 use text::fault::Fault;
+use text::limits::LONGEST_NUMBER;
 
 // What a record holds.
 #[derive(Clone, Copy, Debug, PartialEq)]
@@ -47,9 +48,6 @@ impl BodyError {
         }
     }
 }
-
-// The most bytes of a whole number, and the most digits of a decimal.
-const LONGEST_NUMBER: usize = 1000;
 
 // A boolean: 0 or 1.
 fn boolean_form(body: &[u8]) -> bool

@@ -7,7 +7,8 @@ use text::fault::Fault;
 
 // The number and the place of a refusal.
 fn refusal<T: Drop>(made: Result<T, MakeFault>) -> Option<(u8, usize)> {
-    made.err().map(|fault| (fault.number().unwrap_or(0), fault.place()))
+    made.err()
+        .map(|fault| (fault.number().unwrap_or(0), fault.place()))
 }
 
 fn schema_refusal(heap: Global, text: &[u8]) -> Option<(u8, usize)> {
