@@ -2,8 +2,7 @@
 use Rattle.std.proofs.Common.{◌≡◌, ℕ, ◌+◌, ◌-◌, ◌*◌, ◌/◌, ◌%◌, ◌^◌, ◌<◌, ◌≤◌, List, ◌∷◌, ◌++◌, length, min, get_or, take, drop, refl, sym, ap, ◌∙◌, arith}
 use native.Mathlib.Nat.{div-div-eq-div-mul}
 use Rattle.std.proofs.lemmas.List.{get_or-drop, get_or-take, drop_more}
-use Rattle.text.proofs.NormSettle.{length_part}
-use Rattle.text.proofs.NormValues.{rest_is}
+use Rattle.text.proofs.LexBase.{cut, length_part}
 use Rattle.text.specs.Cuts.{part}
 use Rattle.model.specs.Records.{framed}
 use Rattle.stored.specs.Frames.{Framed, Unframed, FrameAt}
@@ -87,9 +86,9 @@ joined bytes i from size z b s e l d =
 pub frame_is : (bytes : List ℕ) (i to from size : ℕ) → i + 6 ≤ length bytes → Small bytes i → size ≡ size_at bytes i → from ≡ i + 6 → from + size ≤ to → from + size ≤ length bytes → get_or bytes (i + 5) 0 ≡ 0 → FrameAt bytes i to (record { kind = get_or bytes (i + 4) 0; from = from; end = from + size })
 frame_is bytes i to from size room small is at fits within zero =
     let b = part bytes from (from + size) in
-    let l : length b ≡ size = length_part bytes from (from + size) (omega arith) within ∙ omega arith in
+    let l : length b ≡ size = length_part bytes from (from + size) within ∙ omega arith in
     let whole : drop i bytes ≡ framed (get_or bytes (i + 4) 0) b ++ drop (from + size) bytes =
-    six bytes i room ∙ joined bytes i from size (get_or bytes (i + 5) 0) b small zero (l ∙ is) (ap (λ k. drop k bytes) (sym at) ∙ rest_is bytes from (from + size) (omega arith)) in
+    six bytes i room ∙ joined bytes i from size (get_or bytes (i + 5) 0) b small zero (l ∙ is) (ap (λ k. drop k bytes) (sym at) ∙ cut bytes from (from + size) (omega arith)) in
     record {
       framed = record { rest = drop (from + size) bytes; there = whole; small = omega arith; within = omega arith };
       starts = at;

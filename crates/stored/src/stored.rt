@@ -122,20 +122,6 @@ impl<'a> Stored<'a> {
         let (place, frame) = valued(bytes, at, bytes.len())?;
         Target::new(bytes, place, frame)
     }
-
-    // The first member with the name among the members of the span.
-    fn find(&self, members: Span, name: &[u8]) -> Option<usize>
-        ensures { (ms : Mems) → HeldMems self.now.bytes.now members ms → Found (Held self.now.bytes.now) (member_of ms name.now) result }
-    {
-        let mut span = members;
-        while let Some((at, rest)) = self.next(span) {
-            if self.name(at) == name {
-                return Some(at);
-            }
-            span = rest;
-        }
-        None
-    }
 }
 
 impl Source for Stored<'_> {
@@ -219,10 +205,6 @@ impl Source for Stored<'_> {
             Some(frame) => frame.body(self.bytes),
             None => &[],
         }
-    }
-
-    fn member(&self, at: usize, name: &[u8]) -> Option<usize> {
-        self.find(self.inside(at), name)
     }
 }
 
