@@ -1,14 +1,10 @@
 -- Items and members in spans.
-use Rattle.std.proofs.Common.{◌≡◌, ℕ, ◌+◌, ◌≤◌, true, ◌≢◌, List, [], ◌++◌, length, drop, Some, None, sym, refl, ap, ◌∙◌, subst, ⊎_elim, arith, length-append, length-drop}
-use mathlib.Core.Option.{some}
-use Rattle.std.proofs.lemmas.Bool.{cond-true, cond-false, cases_Bool}
-use Rattle.model.specs.Values.{Name, Rec, Recs, Rmems, r_nil, r_cons, r_end, r_mem, Raws, Mems, end, mem, same}
-use Rattle.model.specs.Coercion.{member}
+use Rattle.std.proofs.Common.{◌≡◌, ℕ, ◌+◌, ◌≤◌, ◌≢◌, List, [], ◌++◌, length, drop, Some, None, sym, refl, ap, ◌∙◌, subst, arith, length-append, length-drop}
+use Rattle.model.specs.Values.{Name, Rec, Recs, Rmems, r_nil, r_cons, r_end, r_mem, Raws, Mems}
 use Rattle.model.specs.Records.{kind, body, encode, encode_all, encode_mems, framed}
 use Rattle.model.specs.Limits.{RecLimitsAll, RecLimitsMems}
-use Rattle.model.proofs.CoNames.{same_refl, same_true}
 use Rattle.source.specs.declared.raw.Span.{Span}
-use Rattle.source.specs.Standing.{LeadsItems, LeadsMembers, Found}
+use Rattle.source.specs.Standing.{LeadsItems, LeadsMembers}
 use Rattle.stored.specs.declared.header.Frame.{Frame}
 use Rattle.stored.specs.Frames.{past, Framed, Unframed, Fills, FrameAt, Valued, an_item, a_member, Valueless, no_record, bare_name}
 use Rattle.stored.specs.Cursors.{shown_all, shown_mems, at_item, at_member, Held, HeldAll, HeldMems, Named}
@@ -158,15 +154,3 @@ members_first bytes s ms h (an_item a k) x = absurd (members_named bytes s ms h 
 members_first bytes s ms h (a_member {g = g} a k b) x = members_next bytes s ms g h a b x
 
 -- A SEARCH AMONG MEMBERS: at the first, past it, and past the last
-
-pub found_here : (bytes : List ℕ) (ms : Mems) (at : ℕ) (rest : Span) (q : List ℕ) → LeadsMembers (Named bytes) (Held bytes) (HeldMems bytes) ms (Some (at, rest)) → ((n : List ℕ) → Named bytes at n → n ≡ q) → Found (Held bytes) (member ms q) (Some at)
-found_here bytes end at rest q h e = absurd h
-found_here bytes (mem n x ms) at rest q h e = subst (λ o. Found (Held bytes) o (Some at)) (sym (cond-true (same n q) (some x) (member ms q) (subst (λ k. same n k ≡ true) (e n h.0) (same_refl n)))) h.1
-
-pub found_later : (bytes : List ℕ) (ms : Mems) (at : ℕ) (rest : Span) (q : List ℕ) → LeadsMembers (Named bytes) (Held bytes) (HeldMems bytes) ms (Some (at, rest)) → ((n : List ℕ) → Named bytes at n → n ≡ q → ⊥) → (ns : Mems) × HeldMems bytes rest ns × (member ms q ≡ member ns q)
-found_later bytes end at rest q h e = absurd h
-found_later bytes (mem n x ms) at rest q h e = (ms, h.2, cond-false (same n q) (some x) (member ms q) (⊎_elim (λ s. absurd (e n h.0 (same_true n q s))) (λ s. s) (cases_Bool (same n q))))
-
-pub found_none : (bytes : List ℕ) (ms : Mems) (q : List ℕ) → LeadsMembers (Named bytes) (Held bytes) (HeldMems bytes) ms None → Found (Held bytes) (member ms q) None
-found_none bytes end q h = tt
-found_none bytes (mem n x ms) q h = absurd h
