@@ -152,5 +152,3 @@ items_first bytes s xs h (a_member {g = g} a k b) x = absurd (items_unnamed byte
 pub members_first : {i : ℕ} (bytes : List ℕ) (s : Span) (ms : Mems) (h : Frame) → Valued bytes s.from s.to i h → HeldMems bytes s ms → LeadsMembers (Named bytes) (Held bytes) (HeldMems bytes) ms (Some (s.from, record { from = h.end; to = s.to }))
 members_first bytes s ms h (an_item a k) x = absurd (members_named bytes s ms h a k x)
 members_first bytes s ms h (a_member {g = g} a k b) x = members_next bytes s ms g h a b x
-
--- A SEARCH AMONG MEMBERS: at the first, past it, and past the last
