@@ -56,8 +56,8 @@ fn bit(hash: u32, name: &[u8], level: usize) -> bool
 
 impl Link {
     // Where the search goes on, on the high or the low side.
-    fn child(self, high: bool) -> Option<usize>
-        ensures { result ≡ child_of self high }
+    fn child(&self, high: bool) -> Option<usize>
+        ensures { result ≡ child_of self.now high }
     {
         if high { self.high } else { self.low }
     }
@@ -101,7 +101,7 @@ impl Names {
         let mut at = base;
         let mut level = 0;
         loop {
-            let link = self.links[at];
+            let link = &self.links[at];
             if link.hash == hash && link.name.bytes(holder) == name {
                 return None;
             }
