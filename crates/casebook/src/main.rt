@@ -3,7 +3,6 @@
 
 use anyhow::anyhow;
 use coercion::rule::AcceptAll;
-use record::hex::hex;
 use sheet::fault::RequestFault;
 use sheet::held::Sheet;
 use std::alloc::AllocError;
@@ -35,7 +34,7 @@ impl From<RequestFault> for Stop {
 
 impl From<AllocError> for Stop {
     fn from(_error: AllocError) -> Stop {
-        refused(0)
+        refused(None)
     }
 }
 
@@ -45,12 +44,11 @@ impl From<anyhow::Error> for Stop {
     }
 }
 
-// A refusal has a number; 0 stands for want of memory.
-fn refused(number: u8) -> Stop {
-    if number == 0 {
-        Stop::Failed(anyhow!("no memory"))
-    } else {
-        Stop::Refused(number)
+// A refusal has a number; want of memory has none.
+fn refused(number: Option<u8>) -> Stop {
+    match number {
+        Some(number) => Stop::Refused(number),
+        None => Stop::Failed(anyhow!("no memory")),
     }
 }
 
@@ -85,7 +83,7 @@ fn sheet(rt: &HostRuntime, folder: &str) -> Result<String, Stop> {
     let text = read(rt, folder, "variables.json")?;
     let mut sheet = Sheet::new(heap, &schema, &operation, AcceptAll, CAPACITY)?;
     sheet.load_json(heap, text.as_slice())?;
-    Ok(hex(heap, sheet.bytes())?)
+    Ok(hex::encode(heap, sheet.bytes())?)
 }
 
 fn run(rt: &HostRuntime) -> anyhow::Result<()> {

@@ -1,7 +1,6 @@
 // The answers to cases.
 use crate::table::Case;
 use coercion::rule::AcceptAll;
-use record::hex::hex;
 use schema::definition::Schema;
 use schema::layer::Layer;
 use schema::operation::Operation;
@@ -10,9 +9,19 @@ use sheet::held::Sheet;
 use std::alloc::{AllocError, Global};
 use validation::{make_operation, make_schema};
 
-// A refusal: its number, its layer and its place.
-fn refusal(heap: Global, number: u8, layer: Layer, place: usize) -> Result<String, AllocError> {
-    let layer = layer.word();
+// Bytes as characters, each as the one of its number.
+pub fn characters(heap: Global, bytes: &[u8]) -> Result<String, AllocError> {
+    bytes.iter().copied().map(char::from).collect(heap)
+}
+
+// A refusal: its number, 0 for want of memory, its layer and its place.
+fn refusal(
+    heap: Global,
+    number: Option<u8>,
+    layer: Layer,
+    place: usize,
+) -> Result<String, AllocError> {
+    let number = number.unwrap_or(0);
     format!(in heap; "refused {number} {layer} {place}")
 }
 
@@ -23,16 +32,14 @@ fn request_refusal(
     fault: RequestFault,
 ) -> Result<String, AllocError> {
     let spot = fault.spot();
-    let mut said = refusal(heap, fault.number(), fault.layer(), spot.place)?;
-    if let Some(index) = spot.variable {
-        if let Some(variable) = operation.variable(index) {
-            said.push_str(" variable ")?;
-            for b in variable.name {
-                said.push(*b as char)?;
-            }
+    let said = refusal(heap, fault.number(), fault.layer(), spot.place)?;
+    match spot.variable.and_then(|index| operation.variable(index)) {
+        Some(variable) => {
+            let name = characters(heap, variable.name)?;
+            format!(in heap; "{said} variable {name}")
         }
+        None => Ok(said),
     }
-    Ok(said)
 }
 
 // The sheet of a request, in hexadecimal.
@@ -44,7 +51,7 @@ fn load(
 ) -> Result<String, RequestFault> {
     let mut sheet = Sheet::new(heap, schema, operation, AcceptAll, case.capacity)?;
     sheet.load_json(heap, case.variables.as_slice())?;
-    Ok(hex(heap, sheet.bytes())?)
+    Ok(hex::encode(heap, sheet.bytes())?)
 }
 
 // What the case comes to.

@@ -13,19 +13,15 @@ use table::Misread;
 
 // The title of a case and its answer; a line that is not understood is an error.
 fn line(heap: Global, text: &[u8]) -> anyhow::Result<String> {
-    let mut said = String::new(heap);
     match table::read(heap, text) {
         Ok(case) => {
-            for b in case.title.as_slice() {
-                said.push(*b as char)?;
-            }
-            said.push_str(": ")?;
-            said.push_str(answer::answer(heap, &case)?.as_str())?;
+            let title = answer::characters(heap, case.title.as_slice())?;
+            let answer = answer::answer(heap, &case)?;
+            Ok(format!(in heap; "{title}: {answer}")?)
         }
-        Err(Misread::Wrong) => said.push_str("error")?,
-        Err(Misread::NoMemory) => return Err(anyhow!("no memory")),
+        Err(Misread::Wrong) => Ok(String::from_str(heap, "error")?),
+        Err(Misread::NoMemory) => Err(anyhow!("no memory")),
     }
-    Ok(said)
 }
 
 fn run(rt: &HostRuntime) -> anyhow::Result<()> {

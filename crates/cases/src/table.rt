@@ -1,7 +1,9 @@
 // The lines of a table of cases.
 ghost use Rattle.std.specs.Prelude.{◌<◌, ◌≤◌, length, IfSome, IfOk};
 
+use hex::FromHex;
 use std::alloc::{AllocError, AllocFailed, Global};
+use std::str;
 
 #[derive(Drop)]
 pub struct Case {
@@ -30,114 +32,70 @@ impl<T: Drop> From<AllocFailed<T>> for Misread {
     }
 }
 
-// Where the byte first stands at or after `from`.
-fn find(text: &[u8], byte: u8, from: usize) -> Option<usize>
-    ensures { IfSome result (λ at. (from ≤ at) × (at < length text.now)) }
+// What stands before the first such mark, and what stands after it.
+fn cut(text: &[u8], mark: u8) -> Result<(&[u8], &[u8]), Misread>
+    ensures { IfOk result (λ p. length p.1.now < length text.now) }
 {
-    let mut at = from;
-    while at < text.len() {
-        if text[at] == byte {
-            return Some(at);
-        }
-        at += 1;
-    }
-    None
+    let at = text.iter().position(|b| *b == mark).ok_or(Misread::Wrong)?;
+    Ok((&text[..at], &text[at + 1..]))
 }
 
-// What stands before the first tab, and what stands after it.
-fn cut(text: &[u8]) -> Result<(&[u8], &[u8]), Misread> {
-    match find(text, b'\t', 0) {
-        Some(at) => {
-            let after = at + 1;
-            Ok((&text[0..at], &text[after..]))
-        }
-        None => Err(Misread::Wrong),
-    }
-}
-
-// A number in decimal digits.
+// A number in decimal digits, with no sign.
 fn number(digits: &[u8]) -> Option<usize> {
-    if digits.is_empty() {
+    let text = str::from_utf8(digits).ok()?;
+    if text.starts_with('+') {
         return None;
     }
-    let mut value: usize = 0;
-    for b in digits {
-        if *b < b'0' || *b > b'9' {
-            return None;
-        }
-        value = value.checked_mul(10)?.checked_add((*b - b'0') as usize)?;
-    }
-    Some(value)
+    text.parse().ok()
 }
 
-fn digit(b: u8) -> Option<u8>
-    ensures { IfSome result (λ v. v < 16) }
+// The byte that a text writes first, as itself or as `\xHH`, and the text after it.
+fn byte(first: u8, after: &[u8]) -> (u8, &[u8])
+    ensures { length result.1.now ≤ length after.now }
 {
-    match b {
-        b'0'..=b'9' => Some(b - b'0'),
-        b'a'..=b'f' => Some(b - b'a' + 10),
-        b'A'..=b'F' => Some(b - b'A' + 10),
-        _ => None,
+    if first == b'\\'
+        && let [b'x', high, low, rest @ ..] = after
+        && let Ok(bytes) = <[u8; 1]>::from_hex([*high, *low])
+    {
+        return (bytes[0], rest);
     }
-}
-
-// The byte that is written at `at`, as itself or as `\xHH`, and where the next one is.
-fn byte(text: &[u8], at: usize) -> (u8, usize)
-    requires { at < length text.now }
-    ensures { (at < result.1) × (result.1 ≤ length text.now) }
-{
-    if text[at] == b'\\' && text.len() - at >= 4 && text[at + 1] == b'x' {
-        if let (Some(high), Some(low)) = (digit(text[at + 2]), digit(text[at + 3])) {
-            return (high * 16 + low, at + 4);
-        }
-    }
-    (text[at], at + 1)
+    (first, after)
 }
 
 // Adds the bytes that a text without repetitions writes.
 fn add(text: &[u8], out: &mut Vec<u8>) -> Result<(), Misread> {
-    let mut at = 0;
-    while at < text.len() {
-        let (b, next) = byte(text, at);
+    let mut rest = text;
+    while let [first, after @ ..] = rest {
+        let (b, after) = byte(*first, after);
         out.push(b)?;
-        at = next;
+        rest = after;
     }
     Ok(())
 }
 
-// Adds what `^N^text^` at `at` writes, and tells where it ends.
-fn repeat(text: &[u8], at: usize, out: &mut Vec<u8>) -> Result<usize, Misread>
-    requires { at < length text.now }
-    ensures { IfOk result (λ end. (at < end) × (end ≤ length text.now)) }
+// Adds what `N^text^` writes that begins a text, and tells what comes after it.
+fn repeat<'t>(text: &'t [u8], out: &mut Vec<u8>) -> Result<&'t [u8], Misread>
+    ensures { IfOk result (λ rest. length rest.now < length text.now) }
 {
-    let start = at + 1;
-    let Some(mark) = find(text, b'^', start) else {
-        return Err(Misread::Wrong);
-    };
-    let from = mark + 1;
-    let Some(end) = find(text, b'^', from) else {
-        return Err(Misread::Wrong);
-    };
-    let Some(count) = number(&text[start..mark]) else {
-        return Err(Misread::Wrong);
-    };
-    for _ in 0..count {
-        add(&text[from..end], out)?;
+    let (count, rest) = cut(text, b'^')?;
+    let (repeated, rest) = cut(rest, b'^')?;
+    for _ in 0..number(count).ok_or(Misread::Wrong)? {
+        add(repeated, out)?;
     }
-    Ok(end + 1)
+    Ok(rest)
 }
 
 // The bytes that a field writes.
 fn field(heap: Global, text: &[u8]) -> Result<Vec<u8>, Misread> {
     let mut out = Vec::new(heap);
-    let mut at = 0;
-    while at < text.len() {
-        if text[at] == b'^' {
-            at = repeat(text, at, &mut out)?;
+    let mut rest = text;
+    while let [first, after @ ..] = rest {
+        if *first == b'^' {
+            rest = repeat(after, &mut out)?;
         } else {
-            let (b, next) = byte(text, at);
+            let (b, after) = byte(*first, after);
             out.push(b)?;
-            at = next;
+            rest = after;
         }
     }
     Ok(out)
@@ -145,22 +103,16 @@ fn field(heap: Global, text: &[u8]) -> Result<Vec<u8>, Misread> {
 
 // The case that a line writes.
 pub fn read(heap: Global, line: &[u8]) -> Result<Case, Misread> {
-    let (title, rest) = cut(line)?;
-    let (schema, rest) = cut(rest)?;
-    let (operation, rest) = cut(rest)?;
-    let (capacity, variables) = cut(rest)?;
-    let Some(capacity) = number(capacity) else {
-        return Err(Misread::Wrong);
-    };
-    let title = title.to_vec(heap)?;
-    let schema = field(heap, schema)?;
-    let operation = field(heap, operation)?;
-    let variables = field(heap, variables)?;
+    let (title, rest) = cut(line, b'\t')?;
+    let (schema, rest) = cut(rest, b'\t')?;
+    let (operation, rest) = cut(rest, b'\t')?;
+    let (capacity, variables) = cut(rest, b'\t')?;
+    let capacity = number(capacity).ok_or(Misread::Wrong)?;
     Ok(Case {
-        title,
-        schema,
-        operation,
+        title: title.to_vec(heap)?,
+        schema: field(heap, schema)?,
+        operation: field(heap, operation)?,
         capacity,
-        variables,
+        variables: field(heap, variables)?,
     })
 }

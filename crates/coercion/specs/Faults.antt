@@ -1,5 +1,5 @@
 -- Refused values: what each case tells.
-use Rattle.std.specs.Prelude.{ℕ, None}
+use Rattle.std.specs.Prelude.{ℕ, Some, None, Option}
 use Rattle.schema.specs.declared.layer.Layer.{Layer}
 use Rattle.schema.specs.declared.layer.Layer.TheVariants.{Text as TextLayer, Value as ValueLayer}
 use Rattle.text.specs.Faults.{number_of as text_number, place_of as text_place}
@@ -8,16 +8,16 @@ use Rattle.coercion.specs.declared.fault.ValueFault.{ValueFault}
 use Rattle.coercion.specs.declared.fault.ValueFault.TheVariants.{Text, TooDeep, NoSpace, NullValue, WrongValue, UnknownKey, MissingField, ScalarRefused, VariableInValue}
 
 -- the number of a refusal; a fault of a text keeps its own
-abbrev pub number_of : ValueFault → ℕ
+abbrev pub number_of : ValueFault → Option ℕ
 number_of (Text f) = text_number f
-number_of (TooDeep s) = 2
-number_of (NoSpace s) = 3
-number_of (NullValue s) = 11
-number_of (WrongValue s) = 12
-number_of (UnknownKey s) = 13
-number_of (MissingField s) = 14
-number_of (ScalarRefused s) = 15
-number_of (VariableInValue s) = 17
+number_of (TooDeep s) = Some 2
+number_of (NoSpace s) = Some 3
+number_of (NullValue s) = Some 11
+number_of (WrongValue s) = Some 12
+number_of (UnknownKey s) = Some 13
+number_of (MissingField s) = Some 14
+number_of (ScalarRefused s) = Some 15
+number_of (VariableInValue s) = Some 17
 
 -- the layer that refuses: the reader of a text, or the walk of a value
 abbrev pub layer_of : ValueFault → Layer

@@ -1,13 +1,19 @@
 -- The open records of a walk.
-use Rattle.std.specs.Prelude.{ℕ, ◌+◌, ◌≤◌, List, [], ◌∷◌, take}
+use Rattle.std.specs.Prelude.{ℕ, ◌+◌, ◌-◌, ◌≤◌, List, length}
+use Rattle.std.specs.List.{All}
+use Rattle.record.specs.declared.working.Working.{Working}
+use Rattle.record.specs.Held.{size}
 use Rattle.coercion.specs.declared.frames.Frame.{Frame}
-use Rattle.coercion.specs.declared.frames.Pile.{Pile}
-
--- the frames of the open records, the innermost last
-abbrev pub piled : Pile → List Frame
-piled p = take p.depth p.frames
 
 -- the header of each open record is written
 abbrev pub Rooted : ℕ → List Frame → Type 0
-Rooted u [] = Unit {0}
-Rooted u (f ∷ fs) = (f.start + 6 ≤ u) × Rooted u fs
+Rooted u fs = All (λ f. f.start + 6 ≤ u) fs
+
+-- they are at most as many as a value is deep
+pub record Stacked (u : ℕ) (fs : List Frame) : Type 0 where
+  pub shallow : length fs ≤ 32
+  pub rooted : Rooted u fs
+
+-- the bytes that are free, and the records that are open
+abbrev pub left : Working → List Frame → ℕ
+left w fs = (size w - w.used) + length fs

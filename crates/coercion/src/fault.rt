@@ -7,7 +7,7 @@ use schema::layer::Layer;
 use text::fault::Fault;
 
 // Where a fault lies: the offset in the text of the raw value, and the declarations that it was walked at.
-#[derive(Clone, Copy, Debug, PartialEq)]
+#[derive(Clone, Copy, Debug, Default, PartialEq)]
 pub struct Spot {
     pub place: usize,
     // The index of the variable.
@@ -39,20 +39,20 @@ impl From<Fault> for ValueFault {
 }
 
 impl ValueFault {
-    // The number of the refusal.
-    pub fn number(self) -> u8
+    // The number of the refusal; none for want of memory, which is no refusal.
+    pub fn number(self) -> Option<u8>
         ensures { result ≡ number_of self }
     {
         match self {
             ValueFault::Text(fault) => fault.number(),
-            ValueFault::TooDeep(_) => 2,
-            ValueFault::NoSpace(_) => 3,
-            ValueFault::NullValue(_) => 11,
-            ValueFault::WrongValue(_) => 12,
-            ValueFault::UnknownKey(_) => 13,
-            ValueFault::MissingField(_) => 14,
-            ValueFault::ScalarRefused(_) => 15,
-            ValueFault::VariableInValue(_) => 17,
+            ValueFault::TooDeep(_) => Some(2),
+            ValueFault::NoSpace(_) => Some(3),
+            ValueFault::NullValue(_) => Some(11),
+            ValueFault::WrongValue(_) => Some(12),
+            ValueFault::UnknownKey(_) => Some(13),
+            ValueFault::MissingField(_) => Some(14),
+            ValueFault::ScalarRefused(_) => Some(15),
+            ValueFault::VariableInValue(_) => Some(17),
         }
     }
 
@@ -73,17 +73,16 @@ impl ValueFault {
         match self {
             ValueFault::Text(fault) => Spot {
                 place: fault.place(),
-                variable: None,
-                field: None,
+                ..Spot::default()
             },
-            ValueFault::TooDeep(spot) => spot,
-            ValueFault::NoSpace(spot) => spot,
-            ValueFault::NullValue(spot) => spot,
-            ValueFault::WrongValue(spot) => spot,
-            ValueFault::UnknownKey(spot) => spot,
-            ValueFault::MissingField(spot) => spot,
-            ValueFault::ScalarRefused(spot) => spot,
-            ValueFault::VariableInValue(spot) => spot,
+            ValueFault::TooDeep(spot)
+            | ValueFault::NoSpace(spot)
+            | ValueFault::NullValue(spot)
+            | ValueFault::WrongValue(spot)
+            | ValueFault::UnknownKey(spot)
+            | ValueFault::MissingField(spot)
+            | ValueFault::ScalarRefused(spot)
+            | ValueFault::VariableInValue(spot) => spot,
         }
     }
 }

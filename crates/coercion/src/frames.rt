@@ -1,29 +1,8 @@
 // The open records of a walk.
-ghost use Rattle.std.specs.Prelude.{◌≡◌, ◌≤◌, length};
-
-use schema::types::Base;
+use arrayvec::ArrayVec;
+use schema::types::Shape;
+pub use source::limits::DEEPEST;
 use source::raw::Span;
-
-// The depth of the deepest record.
-pub const DEEPEST: usize = 32;
-
-// A type, without its name in a text.
-#[derive(Clone, Copy)]
-pub struct Shape {
-    pub base: Base,
-    // How many lists stand around the name.
-    pub levels: usize,
-    // Of the name itself at 0, of each list around it at 1 and up, of the whole type at `levels`.
-    pub non_null: [bool; 9],
-}
-
-// What a value is walked at.
-#[derive(Clone, Copy)]
-pub enum Target {
-    Typed(Shape),
-    // Inside a custom scalar everything is kept as it is.
-    Contents,
-}
 
 // What is still to come in an open record.
 #[derive(Clone, Copy)]
@@ -33,14 +12,14 @@ pub enum Rest {
     Items(Span),
     // Members, each with its name.
     Members(Span),
-    Nothing,
 }
 
 // An open record.
-#[derive(Clone, Copy)]
+#[derive(Clone, Copy, Default)]
 pub struct Frame {
-    pub rest: Rest,
-    pub target: Target,
+    pub rest: Option<Rest>,
+    // The type of what is in it; inside a custom scalar, where everything is kept as it is, there is none.
+    pub shape: Option<Shape>,
     // Where the record starts in the working bytes.
     pub start: usize,
     // The cursor of the record's raw value.
@@ -50,10 +29,4 @@ pub struct Frame {
 }
 
 // The open records, the innermost last.
-#[derive(Drop)]
-pub struct Pile {
-    pub frames: [Frame; DEEPEST],
-    pub depth: usize,
-    ghost shallow: { depth ≤ 32 },
-    ghost whole: { length frames ≡ 32 },
-}
+pub type Frames = ArrayVec<Frame, DEEPEST>;

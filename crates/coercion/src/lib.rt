@@ -4,5 +4,4 @@
 pub mod fault;
 pub mod frames;
 pub mod rule;
-mod stack;
 pub mod walk;

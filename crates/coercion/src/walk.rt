@@ -1,18 +1,19 @@
 // The walk of a raw value at its type.
-ghost use Rattle.std.specs.Prelude.{◌≡◌, ◌+◌, ◌-◌, ◌^◌, ◌<◌, ◌≤◌, true, length, IfOk, OnOk};
+ghost use Rattle.std.specs.Prelude.{◌≡◌, ◌+◌, ◌^◌, ◌<◌, ◌≤◌, length, IfSome, OnOk};
 ghost use Rattle.record.specs.Held.{size, Kept};
-ghost use Rattle.coercion.specs.Frames.{piled, Rooted};
+ghost use Rattle.coercion.specs.Frames.{Rooted, Stacked, left};
 
 use crate::fault::{Spot, ValueFault};
-use crate::frames::{DEEPEST, Frame, Pile, Rest, Shape, Target};
+use crate::frames::{Frame, Frames, Rest};
 use crate::rule::ScalarRule;
 use record::body::Body;
 use record::working::Working;
 use schema::definition::Schema;
 use schema::scalars;
-use schema::types::{Base, Type};
+use schema::types::{Base, Shape, Type};
 use source::raw::{Form, Kind, Source};
 use text::decimal;
+use text::decimal::Scale;
 
 // What stays the same throughout a walk.
 #[derive_where(Clone, Copy)]
@@ -32,18 +33,51 @@ struct Opening<'s> {
     body: Body<'s>,
     // Of a list or an object, what is to come in it.
     rest: Option<Rest>,
-    // What that is walked at.
-    target: Target,
+    // The type of that, unless it is kept as it is.
+    shape: Option<Shape>,
     // The custom scalar that the record is a value of.
     scalar: Option<usize>,
 }
 
-// One value of those that are still to come.
+impl<'s> Opening<'s> {
+    // A record that holds nothing but its body.
+    fn leaf(body: Body<'s>) -> Opening<'s> {
+        Opening {
+            body,
+            rest: None,
+            shape: None,
+            scalar: None,
+        }
+    }
+
+    // A list of items of a type.
+    fn list(rest: Rest, item: Shape) -> Opening<'s> {
+        Opening {
+            body: Body::List,
+            rest: Some(rest),
+            shape: Some(item),
+            scalar: None,
+        }
+    }
+}
+
+// A value in a walk.
 #[derive(Clone, Copy)]
 struct Step<'s> {
+    // Of a member of an object.
     name: Option<&'s [u8]>,
+    // The cursor of the value.
     at: usize,
-    rest: Rest,
+    // Its type, unless it is kept as it is.
+    shape: Option<Shape>,
+}
+
+fn decimal_body(scale: Scale, digits: &[u8]) -> Body<'_> {
+    Body::Decimal {
+        negative: scale.negative,
+        exponent: scale.exponent,
+        digits,
+    }
 }
 
 impl<'w, S: Source, R: ScalarRule> Walk<'w, '_, '_, '_, S, R> {
@@ -73,14 +107,7 @@ impl<'w, S: Source, R: ScalarRule> Walk<'w, '_, '_, '_, S, R> {
             (Kind::Whole, Form::Json) => scalars::safe_integer(text),
             _ => scalars::finite(digits, scale.exponent),
         };
-        if fits {
-            return Some(Body::Decimal {
-                negative: scale.negative,
-                exponent: scale.exponent,
-                digits,
-            });
-        }
-        None
+        fits.then_some(decimal_body(scale, digits))
     }
 
     // The body of the record of a value at a built-in scalar, which may not take it.
@@ -89,11 +116,7 @@ impl<'w, S: Source, R: ScalarRule> Walk<'w, '_, '_, '_, S, R> {
         match (base, kind) {
             (Base::Int, Kind::Whole) => {
                 let text = source.text(at);
-                if scalars::int(text) {
-                    Some(Body::Whole(text))
-                } else {
-                    None
-                }
+                scalars::int(text).then_some(Body::Whole(text))
             }
             (Base::Float, _) => self.float(at, kind),
             (Base::String | Base::Id, Kind::String) => Some(Body::String(source.text(at))),
@@ -111,17 +134,7 @@ impl<'w, S: Source, R: ScalarRule> Walk<'w, '_, '_, '_, S, R> {
             Kind::Null | Kind::Variable => (Body::Null, None),
             Kind::Boolean => (Body::Boolean(source.boolean(at)), None),
             Kind::Whole => (Body::Whole(text), None),
-            Kind::Decimal => {
-                let scale = source.scale(at);
-                (
-                    Body::Decimal {
-                        negative: scale.negative,
-                        exponent: scale.exponent,
-                        digits: text,
-                    },
-                    None,
-                )
-            }
+            Kind::Decimal => (decimal_body(source.scale(at), text), None),
             Kind::String | Kind::Enum => (Body::String(text), None),
             Kind::List => (Body::List, Some(Rest::Items(source.inside(at)))),
             Kind::Object => (Body::Object, Some(Rest::Members(source.inside(at)))),
@@ -129,113 +142,77 @@ impl<'w, S: Source, R: ScalarRule> Walk<'w, '_, '_, '_, S, R> {
         Opening {
             body,
             rest,
-            target: Target::Contents,
+            shape: None,
             scalar,
         }
     }
 
     // The record of a value at a type.
     fn typed(&self, at: usize, kind: Kind, shape: Shape) -> Result<Opening<'w>, ValueFault> {
-        let target = Target::Typed(shape.item());
-        if kind == Kind::Null {
-            if shape.is_non_null() {
-                return Err(ValueFault::NullValue(self.spot(at)));
+        match (kind, shape.base) {
+            (Kind::Null, _) if shape.is_non_null() => Err(ValueFault::NullValue(self.spot(at))),
+            (Kind::Null, _) => Ok(Opening::leaf(Body::Null)),
+            (Kind::List, _) if shape.is_list() => {
+                let items = self.source.inside(at);
+                Ok(Opening::list(Rest::Items(items), shape.item()))
             }
-            return Ok(Opening {
-                body: Body::Null,
-                rest: None,
-                target,
-                scalar: None,
-            });
-        }
-        if shape.levels > 0 {
-            let rest = if kind == Kind::List {
-                Rest::Items(self.source.inside(at))
-            } else {
-                Rest::Single(at)
-            };
-            return Ok(Opening {
-                body: Body::List,
-                rest: Some(rest),
-                target,
-                scalar: None,
-            });
-        }
-        if let Base::Custom(index) = shape.base {
-            return Ok(self.contents(at, kind, Some(index)));
-        }
-        match self.scalar(at, kind, shape.base) {
-            Some(body) => Ok(Opening {
-                body,
-                rest: None,
-                target,
-                scalar: None,
-            }),
-            None => Err(ValueFault::WrongValue(self.spot(at))),
+            _ if shape.is_list() => Ok(Opening::list(Rest::Single(at), shape.item())),
+            (_, Base::Custom(index)) => Ok(self.contents(at, kind, Some(index))),
+            (_, base) => self
+                .scalar(at, kind, base)
+                .map(Opening::leaf)
+                .ok_or_else(|| ValueFault::WrongValue(self.spot(at))),
         }
     }
 
     // The tests that come before the record of a value is opened.
-    fn opening(&self, at: usize, target: Target) -> Result<Opening<'w>, ValueFault> {
+    fn opening(&self, at: usize, shape: Option<Shape>) -> Result<Opening<'w>, ValueFault> {
         let kind = self.source.kind(at);
         if kind == Kind::Variable {
             return Err(ValueFault::VariableInValue(self.spot(at)));
         }
-        match target {
-            Target::Typed(shape) => self.typed(at, kind, shape),
-            Target::Contents => Ok(self.contents(at, kind, None)),
+        match shape {
+            Some(shape) => self.typed(at, kind, shape),
+            None => Ok(self.contents(at, kind, None)),
         }
     }
 
-    // Asks the rule about the record that reaches from `start` to the end, if it is the value of a custom scalar.
-    fn settle(
-        &self,
-        at: usize,
-        scalar: Option<usize>,
-        start: usize,
-        out: &Working<'_>,
-    ) -> Result<(), ValueFault>
-        requires inside { out.now.used ≤ size out.now }
-        requires within { start ≤ out.now.used }
-    {
-        let Some(index) = scalar else {
-            return Ok(());
-        };
-        if self.rule.accepts(self.schema.scalar_name(index), &out.bytes[start..out.used]) {
-            return Ok(());
+    // Asks the rule about a record that is written, if it is the value of a custom scalar.
+    fn settle(&self, at: usize, scalar: Option<usize>, record: &[u8]) -> Result<(), ValueFault> {
+        match scalar {
+            Some(index) if !self.rule.accepts(self.schema.scalar_name(index), record) => {
+                Err(ValueFault::ScalarRefused(self.spot(at)))
+            }
+            _ => Ok(()),
         }
-        Err(ValueFault::ScalarRefused(self.spot(at)))
     }
 
-    // Opens the record of the value at `at`, with its name before it if it has one.
+    // Opens the record of a value, with its name before it if it has one.
     fn begin(
         &self,
-        name: Option<&[u8]>,
-        at: usize,
-        target: Target,
+        step: Step<'_>,
         out: &mut Working<'_>,
-        pile: &mut Pile,
+        frames: &mut Frames,
     ) -> Result<(), ValueFault>
-        requires inside { out.old.used ≤ size out.old }
         requires short { size out.old < 2 ^ 32 }
-        requires rooted { Rooted out.old.used (piled pile.old) }
+        requires stacked { Stacked out.old.used frames.old.items }
         ensures kept { Kept out.old out.new }
-        ensures same { out.new.bytes.ghost_name ≡ out.old.bytes.ghost_name }
-        ensures opened { OnOk result ((out.old.used + 6 ≤ out.new.used) × (length (piled pile.new) ≤ length (piled pile.old) + 1) × Rooted out.new.used (piled pile.new)) }
+        ensures opened { OnOk result ((out.old.used + 6 ≤ out.new.used) × (length frames.new.items ≤ length frames.old.items + 1) × Stacked out.new.used frames.new.items) }
     {
-        let opening = self.opening(at, target)?;
-        if pile.len() >= DEEPEST {
+        let at = step.at;
+        let opening = self.opening(at, step.shape)?;
+        if frames.is_full() {
             return Err(ValueFault::TooDeep(self.spot(at)));
         }
-        let Some(start) = out.begin(name, opening.body) else {
-            return Err(ValueFault::NoSpace(self.spot(at)));
-        };
+        let start = out
+            .begin(step.name, opening.body)
+            .ok_or_else(|| ValueFault::NoSpace(self.spot(at)))?;
         match opening.rest {
-            None => self.settle(at, opening.scalar, start, out),
-            Some(rest) => {
-                pile.push(Frame {
+            None => self.settle(at, opening.scalar, &out.written()[start..]),
+            rest => {
+                frames.push(Frame {
                     rest,
-                    target: opening.target,
+                    shape: opening.shape,
                     start,
                     at,
                     scalar: opening.scalar,
@@ -245,62 +222,51 @@ impl<'w, S: Source, R: ScalarRule> Walk<'w, '_, '_, '_, S, R> {
         }
     }
 
-    // The first of the values that are still to come, and what comes after it.
-    fn next(&self, rest: Rest) -> Option<Step<'w>> {
+    // The first of the values that are still to come in a record, and the record without it.
+    fn next(&self, frame: Frame) -> Option<(Step<'w>, Frame)>
+        ensures { IfSome result (λ p. p.1.start ≡ frame.start) }
+    {
         let source = self.source;
-        match rest {
-            Rest::Single(at) => Some(Step {
-                name: None,
-                at,
-                rest: Rest::Nothing,
-            }),
+        let (name, at, rest) = match frame.rest? {
+            Rest::Single(at) => (None, at, None),
             Rest::Items(span) => {
                 let (at, span) = source.next(span)?;
-                Some(Step {
-                    name: None,
-                    at,
-                    rest: Rest::Items(span),
-                })
+                (None, at, Some(Rest::Items(span)))
             }
             Rest::Members(span) => {
                 let (at, span) = source.next(span)?;
-                Some(Step {
-                    name: Some(source.name(at)),
-                    at,
-                    rest: Rest::Members(span),
-                })
+                (Some(source.name(at)), at, Some(Rest::Members(span)))
             }
-            Rest::Nothing => None,
-        }
+        };
+        let shape = frame.shape;
+        Some((Step { name, at, shape }, Frame { rest, ..frame }))
     }
 
-    // Goes on in the innermost open record: closes it, or opens the next one in it. False where none is open.
-    fn turn(&self, out: &mut Working<'_>, pile: &mut Pile) -> Result<bool, ValueFault>
-        requires inside { out.old.used ≤ size out.old }
+    // Goes on in a record that was the innermost open one: closes it, or opens the next one in it.
+    fn turn(
+        &self,
+        frame: Frame,
+        out: &mut Working<'_>,
+        frames: &mut Frames,
+    ) -> Result<(), ValueFault>
         requires short { size out.old < 2 ^ 32 }
-        requires rooted { Rooted out.old.used (piled pile.old) }
+        requires room { length frames.old.items < 32 }
+        requires within { frame.start + 6 ≤ out.old.used }
+        requires rooted { Rooted out.old.used frames.old.items }
         ensures kept { Kept out.old out.new }
-        ensures same { out.new.bytes.ghost_name ≡ out.old.bytes.ghost_name }
-        ensures rooted { OnOk result (Rooted out.new.used (piled pile.new)) }
-        ensures falls { IfOk result (λ more. (more ≡ true → (size out.new - out.new.used) + length (piled pile.new) < (size out.old - out.old.used) + length (piled pile.old))) }
+        ensures falls { OnOk result (left out.new frames.new.items ≤ left out.old frames.old.items) }
+        ensures stacked { OnOk result (Stacked out.new.used frames.new.items) }
     {
-        let Some(frame) = pile.pop() else {
-            return Ok(false);
-        };
-        match self.next(frame.rest) {
+        match self.next(frame) {
             None => {
                 out.finish(frame.start);
-                self.settle(frame.at, frame.scalar, frame.start, out)?;
+                self.settle(frame.at, frame.scalar, &out.written()[frame.start..])
             }
-            Some(step) => {
-                pile.push(Frame {
-                    rest: step.rest,
-                    ..frame
-                });
-                self.begin(step.name, step.at, frame.target, out, pile)?;
+            Some((step, frame)) => {
+                frames.push(frame);
+                self.begin(step, out, frames)
             }
         }
-        Ok(true)
     }
 
     // Writes the name and the record of the value at `at`, after what is written.
@@ -310,22 +276,21 @@ impl<'w, S: Source, R: ScalarRule> Walk<'w, '_, '_, '_, S, R> {
         at: usize,
         ty: &Type<'_>,
         out: &mut Working<'_>,
-        pile: &mut Pile,
+        frames: &mut Frames,
     ) -> Result<(), ValueFault>
-        requires inside { out.old.used ≤ size out.old }
-        requires short { size out.old < 2 ^ 32 }
-        ensures kept { Kept out.old out.new }
-        ensures same { out.new.bytes.ghost_name ≡ out.old.bytes.ghost_name }
+        requires { size out.old < 2 ^ 32 }
+        ensures { Kept out.old out.new }
     {
-        pile.clear();
-        let non_null = ty.non_null;
-        let shape = Shape {
-            base: ty.base,
-            levels: ty.levels,
-            non_null,
+        frames.clear();
+        let step = Step {
+            name: Some(name),
+            at,
+            shape: Some(ty.shape),
         };
-        self.begin(Some(name), at, Target::Typed(shape), out, pile)?;
-        while self.turn(out, pile)? {}
+        self.begin(step, out, frames)?;
+        while let Some(frame) = frames.pop() {
+            self.turn(frame, out, frames)?;
+        }
         Ok(())
     }
 }

@@ -2,9 +2,11 @@
 ghost use Rattle.std.specs.Prelude.{◌≤◌, map, vec_len};
 ghost use Rattle.lookup.specs.First.{First};
 
-use crate::types::{Base, Type};
 use lookup::{Lookup, Named, Table};
 use reader::literal::Literal;
+use schema::definition::built_in;
+use schema::tokens::Name;
+use schema::types::{Base, Type};
 use source::tree::Tree;
 
 pub const MOST_TYPES: usize = 256;
@@ -34,11 +36,7 @@ pub struct TypeDef<'a> {
 }
 
 // A value of an enum.
-#[derive(Clone, Copy)]
-pub struct EnumValue<'a> {
-    pub name: &'a [u8],
-    pub place: usize,
-}
+pub type EnumValue<'a> = Name<'a>;
 
 // A field of an input object.
 #[derive(Clone, Copy)]
@@ -52,14 +50,6 @@ pub struct Field<'a> {
 
 impl Named for TypeDef<'_> {
     ghost called = { λ t. t.name.now };
-
-    fn name(&self) -> &[u8] {
-        self.name
-    }
-}
-
-impl Named for EnumValue<'_> {
-    ghost called = { λ v. v.name.now };
 
     fn name(&self) -> &[u8] {
         self.name
@@ -84,41 +74,31 @@ pub struct Schema<'a> {
     pub tree: Tree<'a>,
 }
 
-// What a name stands for without any schema.
-pub fn built_in(name: &[u8]) -> Option<Base> {
-    match name {
-        b"Int" => Some(Base::Int),
-        b"Float" => Some(Base::Float),
-        b"String" => Some(Base::String),
-        b"Boolean" => Some(Base::Boolean),
-        b"ID" => Some(Base::Id),
-        _ => None,
-    }
-}
-
 // The records from `from` on, before `to`; none where these do not stand.
 pub fn between<R>(records: &[R], from: usize, to: usize) -> &[R] {
-    if from > to || to > records.len() {
-        return &[];
+    records.get(from..to).unwrap_or(&[])
+}
+
+// What a type's name stands for, where these types are declared.
+pub(crate) fn base_among(types: &[TypeDef<'_>], name: &[u8]) -> Base {
+    if let Some(base) = built_in(name) {
+        return base;
     }
-    &records[from..to]
+    let Some(index) = Table::new(types).find(name) else {
+        return Base::Unknown;
+    };
+    match types[index].kind {
+        TypeKind::Scalar => Base::Custom(index),
+        TypeKind::Enum => Base::Enum(index),
+        TypeKind::Input => Base::Input(index),
+        TypeKind::Output => Base::Output,
+    }
 }
 
 impl<'a> Schema<'a> {
     // What a type's name stands for.
     pub fn base(&self, name: &[u8]) -> Base {
-        if let Some(base) = built_in(name) {
-            return base;
-        }
-        let Some(index) = self.find(name) else {
-            return Base::Unknown;
-        };
-        match self.types[index].kind {
-            TypeKind::Scalar => Base::Custom(index),
-            TypeKind::Enum => Base::Enum(index),
-            TypeKind::Input => Base::Input(index),
-            TypeKind::Output => Base::Output,
-        }
+        base_among(&self.types, name)
     }
 
     // The first type with the name.
@@ -130,43 +110,37 @@ impl<'a> Schema<'a> {
 
     // The name of a declared type; of none the empty name.
     pub fn type_name(&self, index: usize) -> &[u8] {
-        if index < self.types.len() {
-            return self.types[index].name;
+        match self.types.get(index) {
+            Some(ty) => ty.name,
+            None => b"",
         }
-        b""
+    }
+
+    // Where the values or fields of a declared type stand; those of none nowhere.
+    fn inside(&self, index: usize) -> (usize, usize) {
+        self.types.get(index).map_or((0, 0), |ty| (ty.from, ty.to))
     }
 
     // The values of an enum.
     pub fn values_of(&self, index: usize) -> &[EnumValue<'a>] {
-        if index >= self.types.len() {
-            return &[];
-        }
-        let TypeDef { from, to, .. } = self.types[index];
+        let (from, to) = self.inside(index);
         between(self.values.as_slice(), from, to)
     }
 
     // The fields of an input object.
     pub fn fields_of(&self, index: usize) -> &[Field<'a>] {
-        if index >= self.types.len() {
-            return &[];
-        }
-        let TypeDef { from, to, .. } = self.types[index];
+        let (from, to) = self.inside(index);
         between(self.fields.as_slice(), from, to)
     }
 
     // The number of the first field of an input object.
     pub fn first_field(&self, index: usize) -> usize {
-        if index >= self.types.len() {
-            return 0;
-        }
-        self.types[index].from
+        let (from, _) = self.inside(index);
+        from
     }
 
     pub fn field(&self, index: usize) -> Option<&Field<'a>> {
-        if index < self.fields.len() {
-            return Some(&self.fields[index]);
-        }
-        None
+        self.fields.get(index)
     }
 
     // Whether an enum has a value of that name.

@@ -1,26 +1,25 @@
 // The reading of schema texts.
-ghost use Rattle.std.specs.Prelude.{◌≡◌, ◌<◌, ◌≤◌, length, IfOk, vec_len};
+ghost use Rattle.std.specs.Prelude.{◌≡◌, ◌≤◌, IfOk, vec_len};
+ghost use Rattle.schema.specs.Reading.{Onward};
 
-use crate::declaration::declared;
 use crate::definition::{
-    EnumValue, Field, MOST_FIELDS, MOST_TYPES, MOST_VALUES, Schema, TypeDef, TypeKind,
+    EnumValue, Field, MOST_FIELDS, MOST_TYPES, MOST_VALUES, Schema, TypeDef, TypeKind, base_among,
 };
-use crate::types::Type;
-use source::limits::LONGEST_TEXT;
+use schema::declaration;
+use schema::declaration::Declaration;
+use schema::tokens::{Name, Tokens};
+use schema::types::Base;
 use source::nodes::Nodes;
 use source::tree::Tree;
 use std::alloc::Global;
 use text::fault::Fault;
-use text::graphql;
 use text::token::{Lexeme, Token};
 
 // Reads a schema: any number of definitions.
 pub fn read_schema(heap: Global, text: &[u8]) -> Result<Schema<'_>, Fault>
     ensures { IfOk result (λ s. vec_len s.types ≤ 256) }
 {
-    if text.len() > LONGEST_TEXT {
-        return Err(Fault::BadText(0));
-    }
+    let mut tokens = Tokens::new(text)?;
     let mut schema = Schema {
         types: Vec::new(heap),
         values: Vec::new(heap),
@@ -30,13 +29,15 @@ pub fn read_schema(heap: Global, text: &[u8]) -> Result<Schema<'_>, Fault>
             nodes: Nodes::new(heap),
         },
     };
-    let mut next = 0;
     loop {
-        let lexeme = graphql::token(text, next)?;
-        match lexeme.token {
+        let Lexeme { token, start, .. } = tokens.next()?;
+        match token {
             Token::End => break,
-            Token::Name(keyword) => next = definition(text, keyword, lexeme, &mut schema)?,
-            _ => return Err(Fault::BadText(lexeme.start)),
+            Token::Name(keyword) => {
+                let kind = declares(keyword).ok_or(Fault::BadText(start))?;
+                definition(&mut tokens, kind, &mut schema)?;
+            }
+            _ => return Err(Fault::BadText(start)),
         }
     }
     resolve(&mut schema);
@@ -54,26 +55,21 @@ fn declares(keyword: &[u8]) -> Option<TypeKind> {
     }
 }
 
-// The definition that begins with a keyword: where it ends.
+// The definition whose keyword was read.
 fn definition<'a>(
-    text: &'a [u8],
-    keyword: &[u8],
-    lexeme: Lexeme<'a>,
+    tokens: &mut Tokens<'a>,
+    kind: TypeKind,
     schema: &mut Schema<'a>,
-) -> Result<usize, Fault>
-    requires within { lexeme.end ≤ length text.now }
-    requires few { vec_len schema.old.types ≤ 256 }
-    ensures forward { IfOk result (λ end. (lexeme.entry.end < end) × (end ≤ length text.now)) }
+) -> Result<(), Fault>
+    requires { vec_len schema.old.types ≤ 256 }
+    ensures onward { IfOk result (λ _. Onward 1 tokens.old tokens.new) }
     ensures few { vec_len schema.new.types ≤ 256 }
 {
-    let Some(kind) = declares(keyword) else {
-        return Err(Fault::BadText(lexeme.start));
-    };
-    let (name, place, after) = name_at(text, lexeme.end)?;
+    let Name { name, place } = tokens.name()?;
     if schema.types.len() >= MOST_TYPES {
         return Err(Fault::NoSpace(place));
     }
-    let (from, to, end) = contents(text, after, kind, schema)?;
+    let (from, to) = contents(tokens, kind, schema)?;
     schema.types.push(TypeDef {
         name,
         place,
@@ -81,129 +77,82 @@ fn definition<'a>(
         from,
         to,
     })?;
-    Ok(end)
+    Ok(())
 }
 
-// What stands in the braces of a definition, if it has any: the values or fields that it declares, and where it ends.
+// What stands in the braces of a definition, if it has any: where the values or fields that it declares stand.
 fn contents<'a>(
-    text: &'a [u8],
-    at: usize,
+    tokens: &mut Tokens<'a>,
     kind: TypeKind,
     schema: &mut Schema<'a>,
-) -> Result<(usize, usize, usize), Fault>
-    requires { at ≤ length text.now }
-    ensures forward { IfOk result (λ p. (at ≤ p.2) × (p.2 ≤ length text.now)) }
+) -> Result<(usize, usize), Fault>
+    ensures onward { IfOk result (λ _. Onward 0 tokens.old tokens.new) }
     ensures types { vec_len schema.new.types ≡ vec_len schema.old.types }
 {
     match kind {
         TypeKind::Enum => {
             let from = schema.values.len();
-            let end = enum_values(text, at, &mut schema.values)?;
-            Ok((from, schema.values.len(), end))
+            enum_values(tokens, &mut schema.values)?;
+            Ok((from, schema.values.len()))
         }
         TypeKind::Input => {
             let from = schema.fields.len();
-            let end = input_fields(text, at, &mut schema.fields, &mut schema.tree.nodes)?;
-            Ok((from, schema.fields.len(), end))
+            input_fields(tokens, &mut schema.fields, &mut schema.tree.nodes)?;
+            Ok((from, schema.fields.len()))
         }
-        _ => Ok((0, 0, at)),
+        TypeKind::Scalar | TypeKind::Output => Ok((0, 0)),
     }
 }
 
-// The name at `at`, with its place, and where it ends.
-fn name_at(text: &[u8], at: usize) -> Result<(&[u8], usize, usize), Fault>
-    requires { at ≤ length text.now }
-    ensures { IfOk result (λ p. (at < p.2) × (p.2 ≤ length text.now)) }
-{
-    let Lexeme { token, start, end } = graphql::token(text, at)?;
-    match token {
-        Token::Name(name) => Ok((name, start, end)),
-        _ => Err(Fault::BadText(start)),
-    }
-}
-
-// Where the opening brace at `at` ends.
-fn opening(text: &[u8], at: usize) -> Result<usize, Fault>
-    requires { at ≤ length text.now }
-    ensures { IfOk result (λ end. (at < end) × (end ≤ length text.now)) }
-{
-    let lexeme = graphql::token(text, at)?;
-    match lexeme.token {
-        Token::OpenBrace => Ok(lexeme.end),
-        _ => Err(Fault::BadText(lexeme.start)),
-    }
-}
-
-// The values of an enum in their braces, at least one: where the braces end.
-fn enum_values<'a>(
-    text: &'a [u8],
-    at: usize,
-    values: &mut Vec<EnumValue<'a>>,
-) -> Result<usize, Fault>
-    requires { at ≤ length text.now }
-    ensures { IfOk result (λ end. (at ≤ end) × (end ≤ length text.now)) }
+// The values of an enum in their braces, at least one.
+fn enum_values<'a>(tokens: &mut Tokens<'a>, values: &mut Vec<EnumValue<'a>>) -> Result<(), Fault>
+    ensures { IfOk result (λ _. Onward 0 tokens.old tokens.new) }
 {
     let first = values.len();
-    let mut next = opening(text, at)?;
+    tokens.expect(|token| matches!(token, Token::OpenBrace))?;
     loop {
-        let lexeme = graphql::token(text, next)?;
-        let place = lexeme.start;
-        match lexeme.token {
-            Token::Name(b"true" | b"false" | b"null") => return Err(Fault::BadText(place)),
+        let Lexeme { token, start, .. } = tokens.next()?;
+        match token {
+            Token::Name(b"true" | b"false" | b"null") => return Err(Fault::BadText(start)),
             Token::Name(name) => {
                 if values.len() >= MOST_VALUES {
-                    return Err(Fault::NoSpace(place));
+                    return Err(Fault::NoSpace(start));
                 }
-                values.push(EnumValue { name, place })?;
-                next = lexeme.end;
+                values.push(EnumValue { name, place: start })?;
             }
-            Token::CloseBrace => {
-                if values.len() == first {
-                    return Err(Fault::BadText(place));
-                }
-                return Ok(lexeme.end);
-            }
-            _ => return Err(Fault::BadText(place)),
+            Token::CloseBrace if values.len() != first => return Ok(()),
+            _ => return Err(Fault::BadText(start)),
         }
     }
 }
 
-// The fields of an input object in their braces, at least one: where the braces end.
+// The fields of an input object in their braces, at least one.
 fn input_fields<'a>(
-    text: &'a [u8],
-    at: usize,
+    tokens: &mut Tokens<'a>,
     fields: &mut Vec<Field<'a>>,
     nodes: &mut Nodes,
-) -> Result<usize, Fault>
-    requires { at ≤ length text.now }
-    ensures { IfOk result (λ end. (at ≤ end) × (end ≤ length text.now)) }
+) -> Result<(), Fault>
+    ensures { IfOk result (λ _. Onward 0 tokens.old tokens.new) }
 {
     let first = fields.len();
-    let mut next = opening(text, at)?;
+    tokens.expect(|token| matches!(token, Token::OpenBrace))?;
     loop {
-        let lexeme = graphql::token(text, next)?;
-        let place = lexeme.start;
-        match lexeme.token {
+        let Lexeme { token, start, .. } = tokens.next()?;
+        match token {
             Token::Name(name) => {
                 if fields.len() >= MOST_FIELDS {
-                    return Err(Fault::NoSpace(place));
+                    return Err(Fault::NoSpace(start));
                 }
-                let (ty, default, end) = declared(text, lexeme.end, nodes)?;
+                let Declaration { ty, default } = declaration::declared(tokens, nodes)?;
                 fields.push(Field {
                     name,
-                    place,
-                    ty,
+                    place: start,
+                    ty: ty.of(Base::Unknown),
                     default,
                 })?;
-                next = end;
             }
-            Token::CloseBrace => {
-                if fields.len() == first {
-                    return Err(Fault::BadText(place));
-                }
-                return Ok(lexeme.end);
-            }
-            _ => return Err(Fault::BadText(place)),
+            Token::CloseBrace if fields.len() != first => return Ok(()),
+            _ => return Err(Fault::BadText(start)),
         }
     }
 }
@@ -212,10 +161,8 @@ fn input_fields<'a>(
 fn resolve(schema: &mut Schema<'_>)
     ensures { vec_len schema.new.types ≡ vec_len schema.old.types }
 {
-    for i in 0..schema.fields.len() {
-        let field = schema.fields[i];
-        let base = schema.base(field.ty.name);
-        let ty = Type { base, ..field.ty };
-        schema.fields[i] = Field { ty, ..field };
+    let types = schema.types.as_slice();
+    for field in schema.fields.iter_mut() {
+        field.ty = field.ty.of(base_among(types, field.ty.name));
     }
 }

@@ -1,7 +1,5 @@
 // The whole grammar of schema texts, begun: scalars, enums, input objects and names of output types, with their defaults.
 #![tactic(auto)]
 
-mod declaration;
 pub mod definition;
 pub mod document;
-pub mod types;

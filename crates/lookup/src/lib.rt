@@ -2,6 +2,8 @@
 #![tactic(auto)]
 
 ghost use Rattle.std.specs.Prelude.{◌≡◌, ℕ, List, map, length};
+ghost use Rattle.std.specs.List.{position};
+ghost use Rattle.std.specs.Str.{bytes_eq};
 ghost use Rattle.lookup.specs.First.{First};
 
 // What has a name.
@@ -39,17 +41,18 @@ impl<'a, R> Table<'a, R> {
     }
 }
 
+// The index of the first record with the name.
+fn first<R: Named>(records: &[R], name: &[u8]) -> Option<usize>
+    ensures { result ≡ position (λ r. bytes_eq (R.called r) name.now) records.now }
+{
+    records.iter().position(|record| record.name() == name)
+}
+
 impl<R: Named> Lookup for Table<'_, R> {
     ghost names = { λ t. map R.Named.called t.records.now };
 
     fn find(&self, name: &[u8]) -> Option<usize> {
-        for (i, record) in self.records.iter().enumerate() {
-            let same = record.name() == name;
-            if same {
-                return Some(i);
-            }
-        }
-        None
+        first(self.records, name)
     }
 
     fn len(&self) -> usize {

@@ -5,169 +5,121 @@ ghost use Rattle.model.specs.Cases.{WorkedCases};
 ghost use Rattle.model.specs.Laws.{WholeAsDecimal, SameNumber, ScalarsExactly, OutcomeStays, AllSettle, AcceptsExactly, TakesOnce, WalkAgrees, WalkFits, EncodeInjective, SizeIsLength, DecodesOnce, AcceptsConforming, AcceptsWithin, ComesBack, SameWhenAlike, RunsStand, LoadCoerces, ExtentsCut, EqualBytesWhenAlike, LoadsBack, ShownAreTwins, PlacesDoNotMatter};
 
 // Each worked case leaves what it says, computed from the definitions.
-pub fn worked_cases_stand() -> u8
+pub fn worked_cases_stand()
     ensures { WorkedCases }
-{
-    0
-}
+{}
 
 // A whole number's decimal is in normal form and worth the same.
-pub fn whole_as_decimal_stands() -> u8
+pub fn whole_as_decimal_stands()
     ensures { WholeAsDecimal }
-{
-    0
-}
+{}
 
 // Numbers in normal form are the same exactly when they are worth the same.
-pub fn same_number_stands() -> u8
+pub fn same_number_stands()
     ensures { SameNumber }
-{
-    0
-}
+{}
 
 // The function on scalars takes what the relation takes, and nothing else.
-pub fn scalars_exactly_stands() -> u8
+pub fn scalars_exactly_stands()
     ensures { ScalarsExactly }
-{
-    0
-}
+{}
 
 // An outcome of coercion stays as the bound on nested defaults grows.
-pub fn outcome_stays_stands() -> u8
+pub fn outcome_stays_stands()
     ensures { OutcomeStays }
-{
-    0
-}
+{}
 
 // Where a schema's defaults have outcomes at a bound, every value has one.
-pub fn all_settle_stands() -> u8
+pub fn all_settle_stands()
     ensures { AllSettle }
-{
-    0
-}
+{}
 
 // Coercion accepts what the relation has, and nothing else.
-pub fn accepts_exactly_stands() -> u8
+pub fn accepts_exactly_stands()
     ensures { AcceptsExactly }
-{
-    0
-}
+{}
 
 // A value comes to one record at most.
-pub fn takes_once_stands() -> u8
+pub fn takes_once_stands()
     ensures { TakesOnce }
-{
-    0
-}
+{}
 
 // Unless depth or capacity refuses, the walk has the outcome of coercion without limits.
-pub fn walk_agrees_stands() -> u8
+pub fn walk_agrees_stands()
     ensures { WalkAgrees }
-{
-    0
-}
+{}
 
 // The walk accepts what coercion accepts and the limits hold, and nothing else.
-pub fn walk_fits_stands() -> u8
+pub fn walk_fits_stands()
     ensures { WalkFits }
-{
-    0
-}
+{}
 
 // Different records, and different sheets, have different bytes.
-pub fn encode_injective_stands() -> u8
+pub fn encode_injective_stands()
     ensures { EncodeInjective }
-{
-    0
-}
+{}
 
 // The size of a record or of a sheet is the number of its bytes.
-pub fn size_is_length_stands() -> u8
+pub fn size_is_length_stands()
     ensures { SizeIsLength }
-{
-    0
-}
+{}
 
 // What was encoded is decoded, to one thing only.
-pub fn decodes_once_stands() -> u8
+pub fn decodes_once_stands()
     ensures { DecodesOnce }
-{
-    0
-}
+{}
 
 // Whatever is accepted conforms to its type.
-pub fn accepts_conforming_stands() -> u8
+pub fn accepts_conforming_stands()
     ensures { AcceptsConforming }
-{
-    0
-}
+{}
 
 // What the walk accepts of a source is within every limit of a source.
-pub fn accepts_within_stands() -> u8
+pub fn accepts_within_stands()
     ensures { AcceptsWithin }
-{
-    0
-}
+{}
 
 // A conforming record, taken as a raw value in JSON form, coerces to itself.
-pub fn comes_back_stands() -> u8
+pub fn comes_back_stands()
     ensures { ComesBack }
-{
-    0
-}
+{}
 
 // Two accepted values give the same record exactly when they are alike.
-pub fn same_when_alike_stands() -> u8
+pub fn same_when_alike_stands()
     ensures { SameWhenAlike }
-{
-    0
-}
+{}
 
 // After any list of calls, a sheet holds what its standing values come to, within its capacity.
-pub fn runs_stand_stands() -> u8
+pub fn runs_stand_stands()
     ensures { RunsStand }
-{
-    0
-}
+{}
 
 // An accepted load leaves what CoerceVariableValues gives, without limits.
-pub fn load_coerces_stands() -> u8
+pub fn load_coerces_stands()
     ensures { LoadCoerces }
-{
-    0
-}
+{}
 
 // Each variable's extent cuts its name and record out of the sheet's bytes.
-pub fn extents_cut_stands() -> u8
+pub fn extents_cut_stands()
     ensures { ExtentsCut }
-{
-    0
-}
+{}
 
 // Two runs leave equal bytes exactly when what stands is alike, variable by variable.
-pub fn equal_bytes_when_alike_stands() -> u8
+pub fn equal_bytes_when_alike_stands()
     ensures { EqualBytesWhenAlike }
-{
-    0
-}
+{}
 
 // A sheet's bytes, loaded where they fit, are accepted and give equal bytes.
-pub fn loads_back_stands() -> u8
+pub fn loads_back_stands()
     ensures { LoadsBack }
-{
-    0
-}
+{}
 
 // Values that show one record are the same but for their places.
-pub fn shown_are_twins_stands() -> u8
+pub fn shown_are_twins_stands()
     ensures { ShownAreTwins }
-{
-    0
-}
+{}
 
 // Values that are the same but for their places have the same outcome, but for the places of refusals.
-pub fn places_do_not_matter_stands() -> u8
+pub fn places_do_not_matter_stands()
     ensures { PlacesDoNotMatter }
-{
-    0
-}
+{}

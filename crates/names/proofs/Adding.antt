@@ -1,5 +1,5 @@
 -- A link that is added.
-use Rattle.std.proofs.Common.{◌≡◌, ℕ, zero, suc, ◌+◌, ◌<◌, ◌≤◌, Bool, true, false, ◌⊎◌, List, [], ◌∷◌, ◌++◌, length, get_or, take, drop, set, sym, refl, ap, ◌∙◌, subst, inl, inr, ⊎_elim, arith}
+use Rattle.std.proofs.Common.{◌≡◌, ℕ, zero, suc, ◌+◌, ◌<◌, ◌≤◌, Bool, true, false, ◌⊎◌, List, [], ◌∷◌, ◌++◌, Some, length, get_or, take, drop, set, sym, refl, ap, ◌∙◌, subst, inl, inr, ⊎_elim, arith}
 use Rattle.std.proofs.lemmas.List.{length_push, length-set, get_or_append_left, get_or_push, get_or-set_same, get_or-set_other, get_or_read, drop-append-le, take-append-le, take-set-le}
 use Rattle.std.proofs.lemmas.Bool.{cases_lt, cases_eq, cases_Bool, cond-false}
 use Rattle.model.specs.Values.{Name, has, same}
@@ -72,7 +72,7 @@ grown_push before new =
           };
     }
 
-child_new : (l : Link) (side : Bool) (c : ℕ) → child_of (with_child_lem l side c) side ≡ c
+child_new : (l : Link) (side : Bool) (c : ℕ) → child_of (with_child_lem l side c) side ≡ Some c
 child_new l true c = refl
 child_new l false c = refl
 

@@ -1,8 +1,8 @@
 -- Names from a pool that grows.
-use Rattle.std.proofs.Common.{◌≡◌, ℕ, zero, suc, ◌-◌, ◌<◌, ◌≤◌, Bool, true, false, cond, List, [], ◌∷◌, ◌++◌, length, get_or, take, drop, sym, refl, ap, ◌∙◌, subst, arith, length-append, length-drop}
+use Rattle.std.proofs.Common.{◌≡◌, ℕ, zero, suc, ◌-◌, ◌<◌, ◌≤◌, List, [], ◌∷◌, ◌++◌, length, get_or, take, drop, sym, refl, ap, ◌∙◌, subst, arith, length-append, length-drop}
 use Rattle.std.proofs.lemmas.List.{drop-append-le, take-append-le}
-use Rattle.text.specs.Cuts.{part}
 use Rattle.names.specs.declared.part.Part.{Part}
+use Rattle.names.specs.declared.part.Part.TheVariants.{Text, Pool}
 use Rattle.names.specs.declared.names.Link.{Link}
 use Rattle.names.specs.Parts.{PartFits, bytes_of}
 use Rattle.names.specs.Bits.{hash_of_lem}
@@ -17,21 +17,15 @@ sound_none text pool links base e =
       hashed = λ k a h. absurd (omega arith);
     }
 
-longer : (b : Bool) (text pool more : List ℕ) → length (cond b pool text) ≤ length (cond b (pool ++ more) text)
-longer true text pool more = omega (arith, length-append pool more)
-longer false text pool more = omega arith
-
-same_part : (b : Bool) (text pool more : List ℕ) (i j : ℕ) → i ≤ j → j ≤ length (cond b pool text) → part (cond b (pool ++ more) text) i j ≡ part (cond b pool text) i j
-same_part true text pool more i j a h =
-    ap (take (j - i)) (drop-append-le i pool more (omega arith))
-    ∙ take-append-le (j - i) (drop i pool) more (omega (arith, length-drop i pool))
-same_part false text pool more i j a h = refl
-
 pub fits_pool : (text pool more : List ℕ) (p : Part) → PartFits text pool p → PartFits text (pool ++ more) p
-fits_pool text pool more p f = (f.0, omega (arith, f.1, longer p.pooled text pool more))
+fits_pool text pool more (Text i j) f = f
+fits_pool text pool more (Pool i j) f = (f.0, omega (arith, f.1, length-append pool more))
 
 pub bytes_pool : (text pool more : List ℕ) (p : Part) → PartFits text pool p → bytes_of text (pool ++ more) p ≡ bytes_of text pool p
-bytes_pool text pool more p f = same_part p.pooled text pool more p.start p.end f.0 f.1
+bytes_pool text pool more (Text i j) f = refl
+bytes_pool text pool more (Pool i j) f =
+    ap (take (j - i)) (drop-append-le i pool more (omega (arith, f.0, f.1)))
+    ∙ take-append-le (j - i) (drop i pool) more (omega (arith, length-drop i pool, f.0, f.1))
 
 pub sound_pool : (text pool more : List ℕ) (links : List Link) (base : ℕ) → Sound text pool links base → Sound text (pool ++ more) links base
 sound_pool text pool more links base s =

@@ -1,4 +1,3 @@
-pub mod Hashing
 pub mod Walk
 pub mod Adding
 pub mod Growth

@@ -1,5 +1,5 @@
 -- The walk down the links of an object.
-use Rattle.std.proofs.Common.{◌≡◌, ℕ, ◌+◌, ◌<◌, ◌≤◌, Bool, ◌⊎◌, List, length, get_or, sym, refl, ap, ◌∙◌, subst, inl, inr, ⊎_elim, arith}
+use Rattle.std.proofs.Common.{◌≡◌, ℕ, ◌+◌, ◌<◌, ◌≤◌, Bool, ◌⊎◌, List, Option, Some, length, get_or, sym, refl, ap, ◌∙◌, subst, inl, inr, ⊎_elim, arith}
 use Rattle.std.proofs.lemmas.List.{get_or_read}
 use Rattle.names.specs.declared.names.Link.{Link}
 use Rattle.names.specs.Parts.{PartFits, bytes_of}
@@ -40,7 +40,7 @@ further {text} {pool} {links} w s e other k a b same =
     ⊎_elim (λ q. absurd (other (ap (λ j. name_at text pool links j) q ∙ same))) (λ d. d) (ways (w.ahead s e k a b same))
 
 same_child : {links : List Link} {at c d : ℕ} {side : Bool} → Child links at side c → Child links at side d → c ≡ d
-same_child x y = sym x.is ∙ y.is
+same_child x y = let e = sym x.is ∙ y.is in cc
 
 pub walk_on : {text pool : List ℕ} {links : List Link} {base h : ℕ} {n : List ℕ} {at level : ℕ} (next : ℕ)
     → Walking text pool links base h n at level
@@ -90,19 +90,19 @@ pub hash_read : (text pool : List ℕ) (links : List Link) (base at h : ℕ) (n 
 hash_read text pool links base at h n l lt is from s e same =
     ap (λ (m : Link). m.hash) (get_or_read links at l lt is blank) ∙ s.hashed at from lt ∙ ap hash_of_lem same ∙ sym e
 
-pub child_read : (links : List Link) (at next : ℕ) (l : Link) (side bit : Bool)
-    → at < length links → l ≡ get_or links at l → next ≡ child_of l side → side ≡ bit
+pub child_read : (links : List Link) (at next : ℕ) (l : Link) (side bit : Bool) (child : Option ℕ)
+    → at < length links → l ≡ get_or links at l → child ≡ child_of l side → child ≡ Some next → side ≡ bit
     → at < next → next < length links → Child links at bit next
-child_read links at next l side bit lt is reads sides after within =
+child_read links at next l side bit child lt is reads some sides after within =
     record {
-      is = ap (λ (m : Link). child_of m bit) (sym (get_or_read links at l lt is blank)) ∙ ap (child_of l) (sym sides) ∙ sym reads;
+      is = ap (λ (m : Link). child_of m bit) (sym (get_or_read links at l lt is blank)) ∙ ap (child_of l) (sym sides) ∙ sym reads ∙ some;
       after = after;
       within = within;
     }
 
-pub no_child : (links : List Link) (at next : ℕ) (l : Link) (side : Bool)
-    → at < length links → l ≡ get_or links at l → next ≡ child_of l side
-    → (next ≤ at) ⊎ (length links ≤ next) → (c : ℕ) → Child links at side c → ⊥
-no_child links at next l side lt is reads none c x =
-    let e : next ≡ c = reads ∙ ap (λ (m : Link). child_of m side) (get_or_read links at l lt is blank) ∙ x.is in
-    ⊎_elim (λ q. omega (arith, e, x.after)) (λ q. omega (arith, e, x.within)) none
+-- the child that was read is none: it comes no later, or past the end
+pub no_child : (links : List Link) (at : ℕ) (l : Link) (side : Bool) (child : Option ℕ)
+    → at < length links → l ≡ get_or links at l → child ≡ child_of l side
+    → ((next : ℕ) → child ≡ Some next → at < next → next < length links → ⊥) → (c : ℕ) → Child links at side c → ⊥
+no_child links at l side child lt is reads none c x =
+    none c (reads ∙ ap (λ (m : Link). child_of m side) (get_or_read links at l lt is blank) ∙ x.is) x.after x.within

@@ -4,21 +4,22 @@ use Rattle.text.specs.declared.fault.Fault.{Fault}
 use Rattle.text.specs.declared.fault.Fault.TheVariants.{NoMemory}
 use Rattle.model.specs.Values.{has}
 use Rattle.names.specs.declared.part.Part.{Part}
+use Rattle.names.specs.declared.part.Part.TheVariants.{Text}
 use Rattle.names.specs.declared.names.Link.{Link}
 use Rattle.names.specs.Parts.{PartFits, bytes_of}
 use Rattle.names.specs.Bits.{hash_of_lem, bit_of}
 
 -- what stands past the end
 abbrev pub blank : Link
-blank = record { name = record { start = 0; end = 0; pooled = false }; hash = 0; low = 0; high = 0 }
+blank = record { name = Text 0 0; hash = 0; low = None; high = None }
 
 -- the child of a link on the high (true) or the low side
-abbrev pub child_of : Link → Bool → ℕ
+abbrev pub child_of : Link → Bool → Option ℕ
 child_of l side = cond side l.high l.low
 
 -- a link with another child
 abbrev pub with_child_lem : Link → Bool → ℕ → Link
-with_child_lem l side c = record { name = l.name; hash = l.hash; low = cond side l.low c; high = cond side c l.high }
+with_child_lem l side c = record { name = l.name; hash = l.hash; low = cond side l.low (Some c); high = cond side (Some c) l.high }
 
 -- the name of the link at k
 abbrev pub name_at : (text pool : List ℕ) → List Link → ℕ → List ℕ
@@ -32,9 +33,9 @@ names_of text pool (l ∷ ls) = bytes_of text pool l.name ∷ names_of text pool
 abbrev pub names_from : (text pool : List ℕ) → List Link → ℕ → List (List ℕ)
 names_from text pool links base = names_of text pool (drop base links)
 
--- c is the child of the link at `at` on a side: a child comes after its parent, and any other number says that there is none
+-- c is the child of the link at `at` on a side: a child comes after its parent, and any other number stands for none
 pub record Child (links : List Link) (at : ℕ) (side : Bool) (c : ℕ) : Type 0 where
-  pub is : child_of (slice_index_or links at blank) side ≡ c
+  pub is : child_of (slice_index_or links at blank) side ≡ Some c
   pub after : at < c
   pub within : c < length links
 

@@ -1,16 +1,27 @@
 -- Parts of a text and of a pool, and their bytes.
-use Rattle.std.specs.Prelude.{ℕ, ◌≤◌, cond, List, length}
+use Rattle.std.specs.Prelude.{ℕ, ◌≤◌, List, length}
 use Rattle.text.specs.Cuts.{part}
 use Rattle.names.specs.declared.part.Part.{Part}
+use Rattle.names.specs.declared.part.Part.TheVariants.{Text, Pool}
+
+-- where a part starts and ends
+abbrev pub start_of : Part → ℕ
+start_of (Text i j) = i
+start_of (Pool i j) = i
+
+abbrev pub end_of : Part → ℕ
+end_of (Text i j) = j
+end_of (Pool i j) = j
 
 -- the bytes that a part lies in
 abbrev pub holder : List ℕ → List ℕ → Part → List ℕ
-holder text pool p = cond p.pooled pool text
+holder text pool (Text i j) = text
+holder text pool (Pool i j) = pool
 
 -- a part stands where it starts no later than it ends, and ends within the bytes
 abbrev pub PartFits : List ℕ → List ℕ → Part → Type 0
-PartFits text pool p = (p.start ≤ p.end) × (p.end ≤ length (holder text pool p))
+PartFits text pool p = (start_of p ≤ end_of p) × (end_of p ≤ length (holder text pool p))
 
 -- the bytes of a part
 abbrev pub bytes_of : List ℕ → List ℕ → Part → List ℕ
-bytes_of text pool p = part (holder text pool p) p.start p.end
+bytes_of text pool p = part (holder text pool p) (start_of p) (end_of p)

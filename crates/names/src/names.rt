@@ -3,20 +3,25 @@ ghost use Rattle.std.specs.Prelude.{◌≡◌, ◌<◌, [], length, take};
 ghost use Rattle.names.specs.Bits.{hash_of_lem, bit_of};
 ghost use Rattle.names.specs.Index.{child_of, with_child_lem, AddTold, LeafTold};
 
-use crate::part::Part;
+use crate::part::{Holder, Part};
 use std::alloc::Global;
 use text::fault::Fault;
 
 // The bits of a hash.
 const HASH_BITS: usize = 32;
 
-// A name, and where the search goes on: 0 where it ends.
+// FNV-1a's, at 32 bits.
+const FNV_OFFSET: u32 = 2166136261;
+
+const FNV_PRIME: u32 = 16777619;
+
+// A name, and the links at which the search goes on, on either side.
 #[derive(Clone, Copy, Debug)]
 pub struct Link {
     pub name: Part,
     pub hash: u32,
-    pub low: usize,
-    pub high: usize,
+    pub low: Option<usize>,
+    pub high: Option<usize>,
 }
 
 // The names of the members of the objects that are open, the innermost object's last.
@@ -26,17 +31,18 @@ pub struct Names {
 }
 
 // FNV-1a, its high half mixed into its low half.
+#[tactic(auto, unfolding(crate::specs::Bits::hash_of_lem))]
 fn hash_of(bytes: &[u8]) -> u32
     ensures { result ≡ hash_of_lem bytes.now }
 {
-    let mut hash: u32 = 2166136261;
-    for b in bytes {
-        hash = (hash ^ u32::from(*b)).wrapping_mul(16777619);
-    }
+    let hash = bytes.iter().fold(FNV_OFFSET, |hash, byte| {
+        (hash ^ u32::from(*byte)).wrapping_mul(FNV_PRIME)
+    });
     hash ^ (hash >> 16)
 }
 
 // The side on which a name goes on at a level: by the bits of its hash, then by those of its bytes.
+#[tactic(auto, unfolding(crate::specs::Bits::bit_of))]
 fn bit(hash: u32, name: &[u8], level: usize) -> bool
     ensures { result ≡ bit_of hash name.now level }
 {
@@ -44,17 +50,14 @@ fn bit(hash: u32, name: &[u8], level: usize) -> bool
         return (hash >> level) % 2 == 1;
     }
     let place = level - HASH_BITS;
-    let index = place / 8;
-    if index >= name.len() {
-        return false;
-    }
-    (name[index] >> (place % 8)) % 2 == 1
+    let byte = name.get(place / 8).copied().unwrap_or(0);
+    (byte >> (place % 8)) % 2 == 1
 }
 
 impl Link {
     // Where the search goes on, on the high or the low side.
-    fn child(self, high: bool) -> usize
-        ensures { result ≡ child_of self high }
+    fn child(&self, high: bool) -> Option<usize>
+        ensures { result ≡ child_of self.now high }
     {
         if high { self.high } else { self.low }
     }
@@ -63,6 +66,7 @@ impl Link {
     fn with_child(self, high: bool, child: usize) -> Link
         ensures { result ≡ with_child_lem self high child }
     {
+        let child = Some(child);
         if high {
             Link {
                 high: child,
@@ -90,52 +94,44 @@ impl Names {
     }
 
     // The link below which a name is to come, and on which side; none where the name is among those from `base` on.
-    fn leaf(
-        &self,
-        base: usize,
-        text: &[u8],
-        pool: &[u8],
-        name: &[u8],
-        hash: u32,
-    ) -> Option<(usize, bool)>
+    fn leaf(&self, base: usize, holder: Holder<'_>, name: &[u8], hash: u32) -> Option<(usize, bool)>
         requires { base < length self.now.links.items }
-        ensures { LeafTold text.now pool.now self.now.links.items base hash name.now result }
+        ensures { LeafTold holder.entry.text.now holder.entry.pool.now self.now.links.items base hash name.now result }
     {
         let mut at = base;
         let mut level = 0;
         loop {
-            let link = self.links[at];
-            if link.hash == hash && link.name.bytes(text, pool) == name {
+            let link = &self.links[at];
+            if link.hash == hash && link.name.bytes(holder) == name {
                 return None;
             }
             let high = bit(hash, name, level);
-            let next = link.child(high);
-            if next <= at || next >= self.links.len() {
-                return Some((at, high));
+            match link.child(high) {
+                Some(next) if next > at && next < self.links.len() => at = next,
+                _ => return Some((at, high)),
             }
-            at = next;
             level += 1;
         }
     }
 
     // Adds a name to those from `base` on; false where it is among them, and then nothing is added.
-    pub fn add(&mut self, base: usize, text: &[u8], pool: &[u8], name: Part) -> Result<bool, Fault>
-        ensures { AddTold text.now pool.now base self.old.links.items self.new.links.items name result }
+    pub fn add(&mut self, base: usize, holder: Holder<'_>, name: Part) -> Result<bool, Fault>
+        ensures { AddTold holder.entry.text.now holder.entry.pool.now base self.old.links.items self.new.links.items name result }
     {
-        let bytes = name.bytes(text, pool);
+        let bytes = name.bytes(holder);
         let hash = hash_of(bytes);
         let end = self.links.len();
         let link = Link {
             name,
             hash,
-            low: 0,
-            high: 0,
+            low: None,
+            high: None,
         };
         if base >= end {
             self.links.push(link)?;
             return Ok(true);
         }
-        let Some((at, high)) = self.leaf(base, text, pool, bytes, hash) else {
+        let Some((at, high)) = self.leaf(base, holder, bytes, hash) else {
             return Ok(false);
         };
         self.links.push(link)?;

@@ -1,69 +1,48 @@
 // Parts of a text, and of a pool of bytes beside it.
-ghost use Rattle.std.specs.Prelude.{◌≡◌, ◌-◌, ◌≤◌, true, false, [], length};
-ghost use Rattle.text.specs.Cuts.{part as cut_out};
-ghost use Rattle.names.specs.Parts.{PartFits, bytes_of};
+ghost use Rattle.std.specs.Prelude.{◌≡◌, ◌-◌, [], length};
+ghost use Rattle.names.specs.Parts.{PartFits, bytes_of, start_of, end_of};
 
-// A part of the text or, if pooled, of the pool.
-#[derive(Clone, Copy, Debug)]
-pub struct Part {
-    pub start: usize,
-    pub end: usize,
-    pub pooled: bool,
+// What parts are cut from: a text, and a pool of bytes beside it.
+#[derive(Clone, Copy)]
+pub struct Holder<'s> {
+    pub text: &'s [u8],
+    pub pool: &'s [u8],
 }
 
-// The bytes from `start` on, before `end`; none where these do not stand.
-fn cut(bytes: &[u8], start: usize, end: usize) -> &[u8]
-    ensures stands { start ≤ end → end ≤ length bytes.now → result.now ≡ cut_out bytes.now start end }
-    ensures none { ((start ≤ end) × (end ≤ length bytes.now) → ⊥) → result.now ≡ [] }
-{
-    if start > end || end > bytes.len() {
-        return &[];
-    }
-    &bytes[start..end]
+// The bytes of the text or of the pool from `start` on, before `end`.
+#[derive(Clone, Copy, Debug)]
+pub enum Part {
+    Text { start: usize, end: usize },
+    Pool { start: usize, end: usize },
 }
 
 impl Part {
-    pub const EMPTY: Part = Part {
-        start: 0,
-        end: 0,
-        pooled: false,
-    };
+    pub const EMPTY: Part = Part::Text { start: 0, end: 0 };
 
-    pub fn of_text(start: usize, end: usize) -> Part
-        ensures { result ≡ record { start = start; end = end; pooled = false } }
+    pub fn start(self) -> usize
+        ensures { result ≡ start_of self }
     {
-        Part {
-            start,
-            end,
-            pooled: false,
-        }
-    }
-
-    pub fn of_pool(start: usize, end: usize) -> Part
-        ensures { result ≡ record { start = start; end = end; pooled = true } }
-    {
-        Part {
-            start,
-            end,
-            pooled: true,
+        match self {
+            Part::Text { start, .. } | Part::Pool { start, .. } => start,
         }
     }
 
     pub fn len(self) -> usize
-        ensures { result ≡ self.end - self.start }
+        ensures { result ≡ end_of self - start_of self }
     {
-        self.end.saturating_sub(self.start)
+        match self {
+            Part::Text { start, end } | Part::Pool { start, end } => end.saturating_sub(start),
+        }
     }
 
     // The bytes of the part; none where it does not stand.
-    pub fn bytes<'s>(self, text: &'s [u8], pool: &'s [u8]) -> &'s [u8]
-        ensures stands { PartFits text.now pool.now self → result.now ≡ bytes_of text.now pool.now self }
-        ensures none { (PartFits text.now pool.now self → ⊥) → result.now ≡ [] }
+    pub fn bytes(self, holder: Holder<'_>) -> &[u8]
+        ensures stands { PartFits holder.entry.text.now holder.entry.pool.now self → result.now ≡ bytes_of holder.entry.text.now holder.entry.pool.now self }
+        ensures none { (PartFits holder.entry.text.now holder.entry.pool.now self → ⊥) → result.now ≡ [] }
     {
-        if self.pooled {
-            cut(pool, self.start, self.end)
-        } else {
-            cut(text, self.start, self.end)
+        match self {
+            Part::Text { start, end } => holder.text.get(start..end).unwrap_or_default(),
+            Part::Pool { start, end } => holder.pool.get(start..end).unwrap_or_default(),
         }
     }
 }

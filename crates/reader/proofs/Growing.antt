@@ -12,13 +12,26 @@ use Rattle.source.specs.declared.nodes.Node.{Node}
 use Rattle.source.specs.Nodes.{node_at}
 use Rattle.source.specs.Table.{Table, Says, Named, Stands, StandsAll, StandsMems, Keeps, past_of}
 use Rattle.source.proofs.Keeping.{keeps_all, keeps_on, says_kept, stands_kept, all_kept, mems_kept, past_kept, named_kept, fits_kept, bytes_kept}
-use Rattle.source.proofs.Standings.{head_of}
+use Rattle.source.specs.OneTree.{head_of}
 use Rattle.reader.specs.declared.manner.Manner.{Manner}
 use Rattle.reader.specs.Grammar.{Leaf, l_null, l_true, l_false, l_symbol, l_whole, l_decimal, l_string}
 use Rattle.reader.specs.Tokens.{Sight, sees, Sights}
-use Rattle.reader.specs.Reading.{got, fails, turn, done, again, sees_mark, NameAt, Reads, r_list, r_object, rl_nil, rl_items, ReadsItems, ri_last, ri_more, ro_end, ro_members, ReadsMembers, rm_last, rm_more}
+use Rattle.reader.specs.Reading.{got, fails, turn, done, again, sees_mark, NameAt, Reads, ReadsList, ReadsObject, r_list, r_object, rl_nil, rl_items, ReadsItems, ri_last, ri_more, ro_end, ro_members, ReadsMembers, rm_last, rm_more}
 use Rattle.reader.specs.Told.{Blames, Added, Told, Opened, ItemsAdded, MembersAdded, NameRead}
 use Rattle.reader.proofs.Tables.{Pushed, Pooled, Closed, pooled_keeps, pushed_keeps, pushed_long, pushed_node, closed_keeps, closed_here, closed_long, keeps_closed, says_sized, leaf_head}
+
+-- what is read at a place, with d levels left, comes to a fault: a value, a list or an object after its opening mark, a name
+abbrev pub ValueFails : Manner → List ℕ → (d i : ℕ) → Fault → Type 0
+ValueFails m text d i g = Reads (Sights m.language text) m.language m.distinct d i (fails g)
+
+abbrev pub ListFails : Manner → List ℕ → (d i : ℕ) → Fault → Type 0
+ListFails m text d i g = ReadsList (Sights m.language text) m.language m.distinct d i (fails g)
+
+abbrev pub ObjectFails : Manner → List ℕ → (d i : ℕ) → Fault → Type 0
+ObjectFails m text d i g = ReadsObject (Sights m.language text) m.language m.distinct d i (fails g)
+
+abbrev pub NameFails : Manner → List ℕ → List Name → ℕ → Fault → Type 0
+NameFails m text ns i g = NameAt (Sights m.language text) m.language m.distinct ns i (fails g)
 
 pub blames_map : (P Q : Fault → Type 0) → ((g : Fault) → P g → Q g) → (f : Fault) → Blames f P → Blames f Q
 blames_map P Q h (BadText k) p = h (BadText k) p

@@ -19,6 +19,7 @@ use Rattle.text.specs.TokenGrammar.{Numeral}
 use Rattle.text.specs.TokenFound.{TokenTold}
 use Rattle.text.proofs.LexBase.{cut, length_part}
 use Rattle.names.specs.declared.part.Part.{Part}
+use Rattle.names.specs.declared.part.Part.TheVariants.{Pool}
 use Rattle.names.specs.Parts.{PartFits, bytes_of}
 use Rattle.source.specs.declared.nodes.Node.{Node}
 use Rattle.source.specs.declared.raw.Kind.{Kind}
@@ -85,16 +86,13 @@ bare_node text pool k s name m f t e ek es ef en ex is =
     node_for text pool pool k s name m f m.scale m.text t e ek es ef (ap (λ (n : Node). n.scale.negative) e ∙ en) (ap (λ (n : Node). n.scale.exponent) e ∙ ex)
     (subst (λ (q : Part). PartFits text pool q) (sym p) (omega arith, omega arith)) (ap (λ (q : Part). bytes_of text pool q) p ∙ is) [] (sym (append-nil pool))
 
--- the part of a text that a token is
-pub text_part : (text pool : List ℕ) (i j : ℕ) (p : Part) → p ≡ record { start = i; end = j; pooled = false } → i ≤ j → j ≤ length text → PartFits text pool p × (bytes_of text pool p ≡ part text i j)
-text_part text pool i j p e h l = (subst (λ (q : Part). PartFits text pool q) (sym e) (h, l), ap (λ (q : Part). bytes_of text pool q) e)
-
 -- what was added to a pool is a part of it
-pub pool_part : (text before added after : List ℕ) (p : Part) → after ≡ before ++ added → p ≡ record { start = length before; end = length after; pooled = true } → PartFits text after p × (bytes_of text after p ≡ added)
-pool_part text before added after p g e =
+pub pool_part : (text before added after : List ℕ) (i j : ℕ) → after ≡ before ++ added → i ≡ length before → j ≡ length after → PartFits text after (Pool i j) × (bytes_of text after (Pool i j) ≡ added)
+pool_part text before added after i j g e f =
     let l = ap length g ∙ length-append before added in (
-      subst (λ (q : Part). PartFits text after q) (sym e) (omega (arith, l), omega arith),
-      ap (λ (q : Part). bytes_of text after q) e ∙ ap (λ x. part x (length before) (length after)) g ∙ ap (λ n. take n (drop (length before) (before ++ added))) (let d : length after - length before ≡ length added = omega (arith, l) in d)
+      (omega (arith, l, e, f), omega (arith, f)),
+      ap (λ x. part x i j) g ∙ ap (λ k. take (j - k) (drop k (before ++ added))) e
+          ∙ ap (λ n. take n (drop (length before) (before ++ added))) (let d : j - length before ≡ length added = omega (arith, l, f) in d)
           ∙ ap (take (length added)) (drop_at before added (length before) refl) ∙ take_all (length added) added (omega arith),
     )
 

@@ -89,6 +89,3 @@ token_numeral Graphql xs r ds k (graphql_number n e a) = n
 
 pub sights_number : (language : Language) (text : List ℕ) (i s e : ℕ) (k : NumberKind) (ds : List ℕ) → Sights language text i (sees s e (a_number k ds)) → Number ds k
 sights_number language text i s e k ds h = (token_numeral language (drop s text) (drop e text) ds k h.reads).number
-
-pub stands_number : (language : Language) (text : List ℕ) (i s e : ℕ) (k : NumberKind) (ds : List ℕ) → TokenIs language text i s e (a_number k ds) → Number ds k
-stands_number language text i s e k ds h = (token_numeral language (drop s text) (drop e text) ds k h.reads).number

@@ -278,20 +278,11 @@ module _ (N : ℕ → Sight → Type 0) (T : ℕ → ℕ → ℕ → Lexical →
     pub sound : {d i j : ℕ} {t : Raw} → Reads N language distinct d i (got j t) → (k : ℕ) → k + d ≡ 33 → Value T language i j t × Bounded distinct k t
     sound r k w = comes r k w
 
-    pub sound_list : {d i j : ℕ} {xs : Raws} → ReadsList N language distinct d i (got j xs) → (k : ℕ) → k + d ≡ 33 → Values T language i j xs × BoundedAll distinct k xs
-    sound_list r k w = comes_list r k w
-
     pub sound_items : {d i j : ℕ} {xs : Raws} → ReadsItems N language distinct d i (got j xs) → (k : ℕ) → k + d ≡ 33 → SomeValues T language i j xs × BoundedAll distinct k xs
     sound_items r k w = comes_items r k w
 
-    pub sound_object : {d i j : ℕ} {ms : Mems} → ReadsObject N language distinct d i (got j ms) → (k : ℕ) → k + d ≡ 33 → Members T language i j ms × Unrepeated distinct (mem_names ms) × BoundedMems distinct k ms
-    sound_object r k w = comes_object r k w
-
     pub sound_members : {d i j : ℕ} {ns : List Name} {ms : Mems} → ReadsMembers N language distinct d ns i (got j ms) → (k : ℕ) → k + d ≡ 33 → SomeMembers T language i j ms × Fresh distinct ns (mem_names ms) × BoundedMems distinct k ms
     sound_members r k w = comes_members r k w
-
-    pub sound_name : {ns : List Name} {i c : ℕ} {n : Name} → NameAt N language distinct ns i (got c n) → NameStands T language distinct ns i c n
-    sound_name a = name_sound a
 
     all_sound : (j : ℕ) (t : Raw) (v : Sight) (o : Out Raw) → Value T language 0 j t × Bounded distinct 0 t → N j v → after_all t v ≡ o → SoundAll T language distinct o
     all_sound j t (sees s e (a_mark m)) o a n z = subst (SoundAll T language distinct) z tt

@@ -1,6 +1,5 @@
 -- What a token is, as the grammar sees it.
-use Rattle.std.proofs.Common.{◌≡◌, ℕ, ◌<◌, ◌≤◌, Bool, true, false, List, [], length, sym, refl, ap, ◌∙◌, subst, true≢false, arith}
-use mathlib.Core.Option.{none}
+use Rattle.std.proofs.Common.{◌≡◌, ◌≢◌, ℕ, ◌<◌, ◌≤◌, Bool, true, false, List, [], length, sym, refl, ap, ◌∙◌, subst, true≢false, arith}
 use Rattle.std.proofs.lemmas.Bool.{cond-true, cond-false}
 use Rattle.model.specs.Values.{Raw, list, object, variable, nil, end, place_of}
 use Rattle.text.specs.declared.fault.Fault.TheVariants.{BadText}
@@ -14,13 +13,12 @@ use Rattle.text.specs.TokenGrammar.{Mark, dollar, open_bracket, open_brace, comm
 use Rattle.text.specs.TokenFound.{View, v_mark, v_name, v_number, v_text, v_end, view_of, Holds}
 use Rattle.names.specs.declared.part.Part.{Part}
 use Rattle.source.specs.declared.nodes.Node.{Node}
-use Rattle.source.specs.declared.raw.Kind.{Kind}
-use Rattle.source.specs.declared.raw.Kind.TheVariants.{Null, Boolean, Whole as WholeKind, Decimal as DecimalKind, String, Enum, Variable, List as ListKind, Object}
+use Rattle.source.specs.declared.raw.Kind.TheVariants.{Variable, List as ListKind, Object}
 use Rattle.source.specs.Heads.{kind_of}
 use Rattle.source.specs.Table.{Table, Says}
 use Rattle.reader.specs.declared.manner.Manner.{Manner}
 use Rattle.reader.specs.Tokens.{sees, blind, Seen}
-use Rattle.reader.specs.Grammar.{Leaf, l_null, l_true, l_false, l_symbol, l_whole, l_decimal, l_string, name_of}
+use Rattle.reader.specs.Grammar.{Leaf, l_null, l_true, l_false, l_symbol, l_whole, l_decimal, l_string}
 use Rattle.reader.specs.Closings.{view_mark}
 use Rattle.reader.specs.Reading.{fails, Starts, starts_leaf, starts_list, starts_object, starts_variable, is_mark, turn, done, again, halts, as_variable, after_all}
 use Rattle.reader.specs.Told.{Lexed, Begun, Opened, bare}
@@ -127,88 +125,32 @@ no_variable language text i j x (Decimal w) s b e n h = ap (λ y. as_variable s 
 no_variable language text i j x (Text w p) s b e n h = ap (λ y. as_variable s (sees b e y)) h.1.1
 no_variable language text i j x End s b e n h = ap (λ y. as_variable s (sees b e y)) h.0
 
--- the tokens that are no names of members
-pub no_name_json : (text : List ℕ) (i j : ℕ) (x : Lexical) (t : Token) → ((w : denote.Ref.Bor (List ℕ)) (p : Bool) → t ≡ Text w p → ⊥) → Holds Json text i j (view_of t) x → name_of Json x ≡ none
-no_name_json text i j x Bang n h = ap (name_of Json) h
-no_name_json text i j x Dollar n h = ap (name_of Json) h
-no_name_json text i j x Ampersand n h = ap (name_of Json) h
-no_name_json text i j x OpenParen n h = ap (name_of Json) h
-no_name_json text i j x CloseParen n h = ap (name_of Json) h
-no_name_json text i j x Spread n h = ap (name_of Json) h
-no_name_json text i j x Colon n h = ap (name_of Json) h
-no_name_json text i j x Equals n h = ap (name_of Json) h
-no_name_json text i j x At n h = ap (name_of Json) h
-no_name_json text i j x OpenBracket n h = ap (name_of Json) h
-no_name_json text i j x CloseBracket n h = ap (name_of Json) h
-no_name_json text i j x OpenBrace n h = ap (name_of Json) h
-no_name_json text i j x Pipe n h = ap (name_of Json) h
-no_name_json text i j x CloseBrace n h = ap (name_of Json) h
-no_name_json text i j x Comma n h = ap (name_of Json) h
-no_name_json text i j x (Name w) n h = ap (name_of Json) h.0
-no_name_json text i j x (Whole w) n h = ap (name_of Json) h.0
-no_name_json text i j x (Decimal w) n h = ap (name_of Json) h.0
-no_name_json text i j x (Text w p) n h = absurd (n w p refl)
-no_name_json text i j x End n h = ap (name_of Json) h.0
-
-pub no_name_graphql : (text : List ℕ) (i j : ℕ) (x : Lexical) (t : Token) → ((w : denote.Ref.Bor (List ℕ)) → t ≡ Name w → ⊥) → Holds Graphql text i j (view_of t) x → name_of Graphql x ≡ none
-no_name_graphql text i j x Bang n h = ap (name_of Graphql) h
-no_name_graphql text i j x Dollar n h = ap (name_of Graphql) h
-no_name_graphql text i j x Ampersand n h = ap (name_of Graphql) h
-no_name_graphql text i j x OpenParen n h = ap (name_of Graphql) h
-no_name_graphql text i j x CloseParen n h = ap (name_of Graphql) h
-no_name_graphql text i j x Spread n h = ap (name_of Graphql) h
-no_name_graphql text i j x Colon n h = ap (name_of Graphql) h
-no_name_graphql text i j x Equals n h = ap (name_of Graphql) h
-no_name_graphql text i j x At n h = ap (name_of Graphql) h
-no_name_graphql text i j x OpenBracket n h = ap (name_of Graphql) h
-no_name_graphql text i j x CloseBracket n h = ap (name_of Graphql) h
-no_name_graphql text i j x OpenBrace n h = ap (name_of Graphql) h
-no_name_graphql text i j x Pipe n h = ap (name_of Graphql) h
-no_name_graphql text i j x CloseBrace n h = ap (name_of Graphql) h
-no_name_graphql text i j x Comma n h = ap (name_of Graphql) h
-no_name_graphql text i j x (Name w) n h = absurd (n w refl)
-no_name_graphql text i j x (Whole w) n h = ap (name_of Graphql) h.0
-no_name_graphql text i j x (Decimal w) n h = ap (name_of Graphql) h.0
-no_name_graphql text i j x (Text w p) n h = ap (name_of Graphql) h.1.1
-no_name_graphql text i j x End n h = ap (name_of Graphql) h.0
-
--- what begins, by the kind of its node
-abbrev number : Kind → ℕ
-number Null = 0
-number Boolean = 1
-number WholeKind = 2
-number DecimalKind = 3
-number String = 4
-number Enum = 5
-number Variable = 6
-number ListKind = 7
-number Object = 8
-
-leaf_low : {s : ℕ} {x : Lexical} {t : Raw} → Leaf s x t → number (kind_of t) < 6
-leaf_low (l_null e) = omega arith
-leaf_low (l_true e) = omega arith
-leaf_low (l_false e) = omega arith
-leaf_low (l_symbol a b c) = omega arith
-leaf_low (l_whole w) = omega arith
-leaf_low (l_decimal n) = omega arith
-leaf_low (l_string e) = omega arith
+-- what begins, by the kind of its node: a value of one token is neither a list, an object nor a variable
+leaf_apart : {s : ℕ} {x : Lexical} {t : Raw} → Leaf s x t → (kind_of t ≢ ListKind) × (kind_of t ≢ Object) × (kind_of t ≢ Variable)
+leaf_apart (l_null e) = ((λ k. cc), (λ k. cc), (λ k. cc))
+leaf_apart (l_true e) = ((λ k. cc), (λ k. cc), (λ k. cc))
+leaf_apart (l_false e) = ((λ k. cc), (λ k. cc), (λ k. cc))
+leaf_apart (l_symbol a b c) = ((λ k. cc), (λ k. cc), (λ k. cc))
+leaf_apart (l_whole w) = ((λ k. cc), (λ k. cc), (λ k. cc))
+leaf_apart (l_decimal n) = ((λ k. cc), (λ k. cc), (λ k. cc))
+leaf_apart (l_string e) = ((λ k. cc), (λ k. cc), (λ k. cc))
 
 pub opens_list : {s : ℕ} {x : Lexical} {t : Raw} → Starts s x t → kind_of t ≡ ListKind → (x ≡ a_mark open_bracket) × (t ≡ list s nil)
-opens_list (starts_leaf l) e = absurd (omega (arith, leaf_low l, ap number e))
+opens_list (starts_leaf l) e = absurd ((leaf_apart l).0 e)
 opens_list starts_list e = (refl, refl)
-opens_list starts_object e = absurd (omega (arith, ap number e))
-opens_list starts_variable e = absurd (omega (arith, ap number e))
+opens_list starts_object e = cc
+opens_list starts_variable e = cc
 
 pub opens_object : {s : ℕ} {x : Lexical} {t : Raw} → Starts s x t → kind_of t ≡ Object → (x ≡ a_mark open_brace) × (t ≡ object s end)
-opens_object (starts_leaf l) e = absurd (omega (arith, leaf_low l, ap number e))
-opens_object starts_list e = absurd (omega (arith, ap number e))
+opens_object (starts_leaf l) e = absurd ((leaf_apart l).1 e)
+opens_object starts_list e = cc
 opens_object starts_object e = (refl, refl)
-opens_object starts_variable e = absurd (omega (arith, ap number e))
+opens_object starts_variable e = cc
 
 pub opens_variable : {s : ℕ} {x : Lexical} {t : Raw} → Starts s x t → kind_of t ≡ Variable → (x ≡ a_mark dollar) × (t ≡ variable s [])
-opens_variable (starts_leaf l) e = absurd (omega (arith, leaf_low l, ap number e))
-opens_variable starts_list e = absurd (omega (arith, ap number e))
-opens_variable starts_object e = absurd (omega (arith, ap number e))
+opens_variable (starts_leaf l) e = absurd ((leaf_apart l).2 e)
+opens_variable starts_list e = cc
+opens_variable starts_object e = cc
 opens_variable starts_variable e = (refl, refl)
 
 pub is_leaf : {s : ℕ} {x : Lexical} {t : Raw} → Starts s x t → (kind_of t ≡ ListKind → ⊥) → (kind_of t ≡ Object → ⊥) → (kind_of t ≡ Variable → ⊥) → Leaf s x t

@@ -1,5 +1,7 @@
 -- What the functions of the reader promise.
 use Rattle.std.specs.Prelude.{◌≡◌, ℕ, ◌<◌, ◌≤◌, Bool, true, false, List, [], ◌∷◌, ◌++◌, length, take, drop, Ok, Err, Result}
+use Rattle.std.specs.declared.ops.ControlFlow.{ControlFlow}
+use Rattle.std.specs.declared.ops.ControlFlow.TheVariants.{Continue, Break}
 use Rattle.std.proofs.Math.Option.{none, some}
 use Rattle.model.specs.Values.{Name, Raw, Raws, Mems}
 use Rattle.text.specs.declared.fault.Fault.{Fault}
@@ -18,8 +20,6 @@ use Rattle.source.specs.declared.nodes.Node.{Node}
 use Rattle.source.specs.Nodes.{node_at}
 use Rattle.source.specs.Table.{Table, Says, Stands, StandsAll, StandsMems, Keeps, past_of}
 use Rattle.reader.specs.declared.manner.Manner.{Manner}
-use Rattle.reader.specs.declared.manner.Step.{Step}
-use Rattle.reader.specs.declared.manner.Step.TheVariants.{Again, Done}
 use Rattle.reader.specs.Tokens.{Sight, blind, Seen, Sights}
 use Rattle.reader.specs.Grammar.{Leaf, name_of}
 use Rattle.reader.specs.Reading.{got, fails, Starts, turn, done, again, halts, repeats, NameAt, Reads, ReadsList, ReadsObject}
@@ -190,11 +190,11 @@ NameTold m text i ns base pool pool' before after (Ok p) = NameRead m text i p.1
 NameTold m text i ns base pool pool' before after (Err f) = Blames f (λ g. NameAt (Sights m.language text) m.language m.distinct ns i (fails g))
 
 -- how it goes on after a value that ends at `at`, where v is seen
-abbrev pub StepIs : Language → Mark → ℕ → Sight → List ℕ → Step → Type 0
-StepIs language close at v text (Again k) = (turn language close at v ≡ again k) × (at ≤ k) × (k ≤ length text)
-StepIs language close at v text (Done e) = (turn language close at v ≡ done e) × (at < e) × (e ≤ length text)
+abbrev pub StepIs : Language → Mark → ℕ → Sight → List ℕ → ControlFlow ℕ ℕ → Type 0
+StepIs language close at v text (Continue k) = (turn language close at v ≡ again k) × (at ≤ k) × (k ≤ length text)
+StepIs language close at v text (Break e) = (turn language close at v ≡ done e) × (at < e) × (e ≤ length text)
 
-abbrev pub TurnTold : Language → List ℕ → Mark → ℕ → Result Step Fault → Type 0
+abbrev pub TurnTold : Language → List ℕ → Mark → ℕ → Result (ControlFlow ℕ ℕ) Fault → Type 0
 TurnTold language text close at (Ok s) = (v : Sight) × Sights language text at v × StepIs language close at v text s
 TurnTold language text close at (Err f) = (v : Sight) × Sights language text at v × (turn language close at v ≡ halts f)
 

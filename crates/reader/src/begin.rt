@@ -8,7 +8,7 @@ ghost use Rattle.text.specs.TokenGrammar.{a_name, a_number, Numeral};
 ghost use Rattle.text.specs.TokenFound.{Writes};
 ghost use Rattle.reader.specs.Told.{LookTold, LeafNode, LeafTold, PartTold, Lexed, StartTold, BeginTold};
 
-use crate::manner::Manner;
+use crate::manner::Reader;
 use names::part::Part;
 use source::nodes::Node;
 use source::raw::Kind;
@@ -16,16 +16,6 @@ use text::fault::Fault;
 use text::language::Language;
 use text::token::{Lexeme, Token};
 use text::{decimal, graphql, json, string};
-
-// The first token at or after `at`.
-pub(crate) fn token(language: Language, text: &[u8], at: usize) -> Result<Lexeme<'_>, Fault>
-    ensures { LookTold language text.now at result }
-{
-    match language {
-        Language::Json => json::token(text, at),
-        Language::Graphql => graphql::token(text, at),
-    }
-}
 
 // The node of a name from `start` to `end`: null, a boolean or an enum value.
 fn word_node(word: &[u8], start: usize, end: usize, name: Part) -> Node
@@ -44,7 +34,7 @@ fn word_node(word: &[u8], start: usize, end: usize, name: Part) -> Node
         return Node::new(Kind::Boolean, start, name);
     }
     Node {
-        text: Part::of_text(start, end),
+        text: Part::Text { start, end },
         ..Node::new(Kind::Enum, start, name)
     }
 }
@@ -55,7 +45,7 @@ fn whole_node(spelled: &[u8], start: usize, end: usize, name: Part) -> Node
 {
     let from = end.saturating_sub(decimal::whole(spelled).len());
     Node {
-        text: Part::of_text(from, end),
+        text: Part::Text { start: from, end },
         ..Node::new(Kind::Whole, start, name)
     }
 }
@@ -69,71 +59,86 @@ fn decimal_node(spelled: &[u8], start: usize, name: Part, pool: &mut Vec<u8>) ->
     let scale = decimal::normal(spelled, pool)?;
     Ok(Node {
         scale,
-        text: Part::of_pool(from, pool.len()),
+        text: Part::Pool {
+            start: from,
+            end: pool.len(),
+        },
         ..Node::new(Kind::Decimal, start, name)
     })
 }
 
-// What the string writes that stands from `start` to `end`, with its quotation marks: a part of the text if it has no
-// escape, else added to the pool.
-pub(crate) fn string_part(
-    lexeme: Lexeme<'_>,
-    raw: &[u8],
-    plain: bool,
-    language: Language,
-    pool: &mut Vec<u8>,
-) -> Result<Part, Fault>
-    requires { lexeme.start + 1 < lexeme.end }
-    ensures { (text cs : List ℕ) → raw.now ≡ cut_out text (lexeme.entry.start + 1) (lexeme.entry.end - 1) → Writes language text (lexeme.entry.start + 1) lexeme.entry.end plain cs → PartTold text pool.old.items pool.new.items (encodes cs) result }
-{
-    if plain {
-        return Ok(Part::of_text(lexeme.start + 1, lexeme.end - 1));
-    }
-    let from = pool.len();
-    string::decode(raw, language, pool)?;
-    Ok(Part::of_pool(from, pool.len()))
-}
-
-// The node of a value that begins with the token; nothing is below it yet.
-fn node_of(
-    lexeme: Lexeme<'_>,
-    name: Part,
-    language: Language,
-    pool: &mut Vec<u8>,
-) -> Result<Node, Fault>
-    requires { (text : List ℕ) × Lexed language text lexeme }
-    ensures { (text : List ℕ) (k : Lexed language text lexeme.entry) → StartTold text pool.old.items pool.new.items name lexeme.entry.start k.token result }
-{
-    let Lexeme { token, start, end } = lexeme;
-    match token {
-        Token::OpenBracket => Ok(Node::new(Kind::List, start, name)),
-        Token::OpenBrace => Ok(Node::new(Kind::Object, start, name)),
-        Token::Dollar => Ok(Node::new(Kind::Variable, start, name)),
-        Token::Name(word) => Ok(word_node(word, start, end, name)),
-        Token::Whole(spelled) => Ok(whole_node(spelled, start, end, name)),
-        Token::Decimal(spelled) => decimal_node(spelled, start, name, pool),
-        Token::Text { raw, plain } => {
-            let text = string_part(lexeme, raw, plain, language, pool)?;
-            Ok(Node {
-                text,
-                ..Node::new(Kind::String, start, name)
-            })
+impl<'a> Reader<'a> {
+    // The first token at or after `at`.
+    pub(crate) fn token(self, at: usize) -> Result<Lexeme<'a>, Fault>
+        ensures { LookTold self.entry.manner.language self.entry.text.now at result }
+    {
+        match self.manner.language {
+            Language::Json => json::token(self.text, at),
+            Language::Graphql => graphql::token(self.text, at),
         }
-        _ => Err(Fault::BadText(start)),
     }
-}
 
-// The first token at or after `at`, and the node of the value that it begins.
-pub(crate) fn begin<'a>(
-    text: &'a [u8],
-    at: usize,
-    name: Part,
-    manner: Manner,
-    pool: &mut Vec<u8>,
-) -> Result<(Lexeme<'a>, Node), Fault>
-    ensures { BeginTold manner text.now at pool.old.items pool.new.items name result }
-{
-    let lexeme = token(manner.language, text, at)?;
-    let node = node_of(lexeme, name, manner.language, pool)?;
-    Ok((lexeme, node))
+    // What the string writes that stands from `start` to `end`, with its quotation marks: a part of the text if it has
+    // no escape, else added to the pool.
+    pub(crate) fn string_part(
+        self,
+        lexeme: Lexeme<'_>,
+        raw: &[u8],
+        plain: bool,
+        pool: &mut Vec<u8>,
+    ) -> Result<Part, Fault>
+        requires { lexeme.start + 1 < lexeme.end }
+        ensures { (text cs : List ℕ) → raw.now ≡ cut_out text (lexeme.entry.start + 1) (lexeme.entry.end - 1) → Writes self.entry.manner.language text (lexeme.entry.start + 1) lexeme.entry.end plain cs → PartTold text pool.old.items pool.new.items (encodes cs) result }
+    {
+        if plain {
+            return Ok(Part::Text {
+                start: lexeme.start + 1,
+                end: lexeme.end - 1,
+            });
+        }
+        let from = pool.len();
+        string::decode(raw, self.manner.language, pool)?;
+        Ok(Part::Pool {
+            start: from,
+            end: pool.len(),
+        })
+    }
+
+    // The node of a value that begins with the token; nothing is below it yet.
+    fn node_of(self, lexeme: Lexeme<'_>, name: Part, pool: &mut Vec<u8>) -> Result<Node, Fault>
+        requires { (text : List ℕ) × Lexed self.manner.language text lexeme }
+        ensures { (text : List ℕ) (k : Lexed self.entry.manner.language text lexeme.entry) → StartTold text pool.old.items pool.new.items name lexeme.entry.start k.token result }
+    {
+        let Lexeme { token, start, end } = lexeme;
+        match token {
+            Token::OpenBracket => Ok(Node::new(Kind::List, start, name)),
+            Token::OpenBrace => Ok(Node::new(Kind::Object, start, name)),
+            Token::Dollar => Ok(Node::new(Kind::Variable, start, name)),
+            Token::Name(word) => Ok(word_node(word, start, end, name)),
+            Token::Whole(spelled) => Ok(whole_node(spelled, start, end, name)),
+            Token::Decimal(spelled) => decimal_node(spelled, start, name, pool),
+            Token::Text { raw, plain } => {
+                let text = self.string_part(lexeme, raw, plain, pool)?;
+                Ok(Node {
+                    text,
+                    ..Node::new(Kind::String, start, name)
+                })
+            }
+            _ => Err(Fault::BadText(start)),
+        }
+    }
+
+    // The first token at or after `at`, and the node of the value that it begins.
+    pub(crate) fn begin(
+        self,
+        at: usize,
+        name: Part,
+        pool: &mut Vec<u8>,
+    ) -> Result<(Lexeme<'a>, Node), Fault>
+        ensures { BeginTold self.entry.manner self.entry.text.now at pool.old.items pool.new.items name result }
+    {
+        let lexeme = self.token(at)?;
+        let node = self.node_of(lexeme, name, pool)?;
+        Ok((lexeme, node))
+    }
 }

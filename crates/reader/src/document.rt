@@ -1,36 +1,77 @@
 // A text that is one value.
-ghost use Rattle.reader.specs.Document.{WholeTold, OneReading};
+ghost use Rattle.std.specs.Prelude.{◌≡◌};
+ghost use Rattle.source.specs.Table.{tree_table};
+ghost use Rattle.reader.specs.Document.{Document, WholeTold, OneReading, table_in};
 
-use crate::begin::token;
-use crate::manner::Manner;
-use crate::value::value;
+use crate::manner::{LEVELS, Manner, Reader};
 use names::part::Part;
-use source::limits::{DEEPEST, LONGEST_TEXT};
+use source::limits::LONGEST_TEXT;
 use source::nodes::Nodes;
 use source::tree::Tree;
+use source::value::{Graphql, Json, Value, Written};
 use std::alloc::Global;
+use std::marker::PhantomData;
 use text::fault::Fault;
 use text::token::Token;
 
-// The one value that is the whole text.
-pub(crate) fn read_whole(heap: Global, text: &[u8], manner: Manner) -> Result<Tree<'_>, Fault>
-    ensures { WholeTold manner text.now result }
-{
-    if text.len() > LONGEST_TEXT {
-        return Err(Fault::BadText(0));
-    }
-    let mut nodes = Nodes::new(heap);
-    let end = value(text, 0, DEEPEST + 1, Part::EMPTY, manner, &mut nodes)?;
-    let after = token(manner.language, text, end)?;
-    match after.token {
-        Token::End => Ok(Tree { text, nodes }),
-        _ => Err(Fault::BadText(after.start)),
+// A text in W that is one value, read.
+#[derive(Drop)]
+pub struct Whole<'a, W> {
+    tree: Tree<'a>,
+    written: PhantomData<W>,
+}
+
+pub type JsonText<'a> = Whole<'a, Json>;
+
+pub type LiteralText<'a> = Whole<'a, Graphql>;
+
+impl<'a, W> Whole<'a, W> {
+    // The value of the whole text.
+    pub fn value(&self) -> Value<'_, 'a, W>
+        ensures tree { result.tree.now ≡ self.now.tree }
+        ensures root { result.root ≡ 0 }
+    {
+        Value::new(&self.tree, 0)
     }
 }
 
-// Reading has one outcome, and each text one first fault at most.
-pub fn one_reading() -> u8
-    ensures { OneReading }
-{
-    0
+impl<'a> Reader<'a> {
+    // The one value that is the whole text.
+    fn whole(self, heap: Global) -> Result<Tree<'a>, Fault>
+        ensures { WholeTold self.entry.manner self.entry.text.now result }
+    {
+        if self.text.len() > LONGEST_TEXT {
+            return Err(Fault::BadText(0));
+        }
+        let mut nodes = Nodes::new(heap);
+        let end = self.value(0, LEVELS, Part::EMPTY, &mut nodes)?;
+        let after = self.token(end)?;
+        match after.token {
+            Token::End => Ok(Tree {
+                text: self.text,
+                nodes,
+            }),
+            _ => Err(Fault::BadText(after.start)),
+        }
+    }
 }
+
+// The one value that is the whole text, in W.
+pub fn read<W: Written>(heap: Global, text: &[u8]) -> Result<Whole<'_, W>, Fault>
+    ensures { Document W.LANGUAGE text.now (table_in (λ w. tree_table w.tree) result) }
+{
+    let manner = Manner {
+        language: W::LANGUAGE,
+        distinct: true,
+    };
+    let tree = Reader { text, manner }.whole(heap)?;
+    Ok(Whole {
+        tree,
+        written: PhantomData,
+    })
+}
+
+// Reading has one outcome, and each text one first fault at most.
+pub fn one_reading()
+    ensures { OneReading }
+{}

@@ -3,7 +3,6 @@
 
 mod begin;
 pub mod document;
-pub mod json;
 pub mod literal;
 pub mod manner;
 mod marks;

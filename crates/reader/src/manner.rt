@@ -1,4 +1,5 @@
 // How a text is read.
+use source::limits::DEEPEST;
 use text::language::Language;
 
 #[derive(Clone, Copy)]
@@ -8,18 +9,12 @@ pub struct Manner {
     pub distinct: bool,
 }
 
-// What comes after a value in a list or an object.
+// Reads the values of a text.
 #[derive(Clone, Copy)]
-pub(crate) enum Step {
-    // More, from there on.
-    Again(usize),
-    // Nothing: where the closing mark ends.
-    Done(usize),
+pub(crate) struct Reader<'a> {
+    pub text: &'a [u8],
+    pub manner: Manner,
 }
 
-// The mark that closes a list or an object.
-#[derive(Clone, Copy)]
-pub(crate) enum Closing {
-    Bracket,
-    Brace,
-}
+// How many levels a value at depth 0 has, its own included.
+pub(crate) const LEVELS: usize = DEEPEST + 1;

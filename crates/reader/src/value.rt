@@ -6,245 +6,221 @@ ghost use Rattle.source.specs.Table.{table_of};
 ghost use Rattle.reader.specs.Closings.{mark_of};
 ghost use Rattle.reader.specs.Told.{Lexed, NamePartTold, Told, Opened, ItemsTold, MembersTold, NamesHeld, NameTold, NewTold, TurnTold};
 
-use crate::begin::{begin, string_part, token};
-use crate::manner::{Closing, Manner, Step};
-use crate::marks::{closes, is_colon, is_comma};
+use crate::manner::Reader;
+use crate::marks::Mark;
 use names::names::Names;
-use names::part::Part;
+use names::part::{Holder, Part};
 use source::limits::LONGEST_NAME;
 use source::nodes::{Node, Nodes};
 use source::raw::Kind;
+use std::ops::ControlFlow;
 use text::fault::Fault;
 use text::language::Language;
 use text::token::{Lexeme, Token};
 
-// How it goes on after a value that ends at `at`.
-fn step(language: Language, text: &[u8], at: usize, closing: Closing) -> Result<Step, Fault>
-    requires { at ≤ length text.now }
-    ensures { TurnTold language text.now (mark_of closing) at result }
-{
-    let lexeme = token(language, text, at)?;
-    if closes(lexeme.token, closing) {
-        return Ok(Step::Done(lexeme.end));
+impl Reader<'_> {
+    // How it goes on after a value that ends at `at`.
+    fn step(self, at: usize, closing: Mark) -> Result<ControlFlow<usize, usize>, Fault>
+        requires { at ≤ length self.text.now }
+        ensures { TurnTold self.entry.manner.language self.entry.text.now (mark_of closing) at result }
+    {
+        let lexeme = self.token(at)?;
+        if closing.is(lexeme.token) {
+            return Ok(ControlFlow::Break(lexeme.end));
+        }
+        let comma = Mark::Comma.is(lexeme.token);
+        match self.manner.language {
+            Language::Graphql => Ok(ControlFlow::Continue(at)),
+            Language::Json if comma => Ok(ControlFlow::Continue(lexeme.end)),
+            Language::Json => Err(Fault::BadText(lexeme.start)),
+        }
     }
-    match language {
-        Language::Graphql => Ok(Step::Again(at)),
-        Language::Json => {
-            if is_comma(lexeme.token) {
-                Ok(Step::Again(lexeme.end))
-            } else {
-                Err(Fault::BadText(lexeme.start))
+
+    // The part of the text or the pool that is a member's name, if the token is one.
+    fn name_part(self, lexeme: Lexeme<'_>, pool: &mut Vec<u8>) -> Result<Part, Fault>
+        requires { (text : Listing ℕ) × Lexed self.manner.language text lexeme }
+        ensures { (text : Listing ℕ) (k : Lexed self.entry.manner.language text lexeme.entry) → NamePartTold self.entry.manner.language text pool.old.items pool.new.items lexeme.entry.start k.token result }
+    {
+        match (self.manner.language, lexeme.token) {
+            (Language::Json, Token::Text { raw, plain }) => self.string_part(
+                lexeme, raw, plain, pool,
+            ),
+            (Language::Graphql, Token::Name(_)) => Ok(Part::Text {
+                start: lexeme.start,
+                end: lexeme.end,
+            }),
+            _ => Err(Fault::BadText(lexeme.start)),
+        }
+    }
+
+    // Whether a name is new among those from `base` on, to which it is added; where names may stand twice, each is new.
+    fn register(
+        self,
+        names: &mut Names,
+        base: usize,
+        pool: &[u8],
+        name: Part,
+    ) -> Result<bool, Fault>
+        ensures { NewTold self.entry.manner.distinct self.entry.text.now pool.now base names.old.links.items names.new.links.items name result }
+    {
+        if self.manner.distinct {
+            names.add(
+                base,
+                Holder {
+                    text: self.text,
+                    pool,
+                },
+                name,
+            )
+        } else {
+            Ok(true)
+        }
+    }
+
+    // The name of a member, and where the colon after it ends. The names before it in the object are those from `base` on.
+    fn member_name(self, at: usize, base: usize, nodes: &mut Nodes) -> Result<(Part, usize), Fault>
+        requires within { at ≤ length self.text.now }
+        requires base { base ≤ length nodes.old.names.links.items }
+        ensures list { nodes.new.list ≡ nodes.old.list }
+        ensures told { (ns : Listing Name) → NamesHeld self.entry.manner.distinct self.entry.text.now nodes.old.pool.items nodes.old.names.links.items base ns → NameTold self.entry.manner self.entry.text.now at ns base nodes.old.pool.items nodes.new.pool.items nodes.old.names.links.items nodes.new.names.links.items result }
+    {
+        let lexeme = self.token(at)?;
+        let name = self.name_part(lexeme, &mut nodes.pool)?;
+        if name.len() > LONGEST_NAME {
+            return Err(Fault::BadText(lexeme.start));
+        }
+        let Nodes { names, pool, .. } = nodes;
+        if !self.register(names, base, pool, name)? {
+            return Err(Fault::RepeatedName(lexeme.start));
+        }
+        let colon = self.token(lexeme.end)?;
+        if !Mark::Colon.is(colon.token) {
+            return Err(Fault::BadText(colon.start));
+        }
+        Ok((name, colon.end))
+    }
+
+    // The variable whose dollar sign ends at `at`, from its node on.
+    fn variable(self, at: usize, node: Node, nodes: &mut Nodes) -> Result<usize, Fault>
+        requires { at ≤ length self.text.now }
+        ensures { (d i : ℕ) (name : Part) → 0 < d → Opened self.entry.manner self.entry.text.now i at (a_mark dollar) (variable_of node.place []) (table_of self.entry.text.now nodes.old) name node → Told self.entry.manner self.entry.text.now d i name (table_of self.entry.text.now nodes.old) (table_of self.entry.text.now nodes.new) nodes.old.names.links.items nodes.new.names.links.items result }
+    {
+        let lexeme = self.token(at)?;
+        let Token::Name(_) = lexeme.token else {
+            return Err(Fault::BadText(lexeme.start));
+        };
+        nodes.add(Node {
+            text: Part::Text {
+                start: lexeme.start,
+                end: lexeme.end,
+            },
+            ..node
+        })?;
+        Ok(lexeme.end)
+    }
+
+    // The value at `at`, with `levels` left for it and what is inside it: where it ends.
+    #[cycle(items_list_members_object_value)]
+    pub(crate) fn value(
+        self,
+        at: usize,
+        levels: usize,
+        name: Part,
+        nodes: &mut Nodes,
+    ) -> Result<usize, Fault>
+        requires { at ≤ length self.text.now }
+        ensures { Told self.entry.manner self.entry.text.now levels at name (table_of self.entry.text.now nodes.old) (table_of self.entry.text.now nodes.new) nodes.old.names.links.items nodes.new.names.links.items result }
+    {
+        let (lexeme, node) = self.begin(at, name, &mut nodes.pool)?;
+        if levels == 0 {
+            return Err(Fault::TooDeep(lexeme.start));
+        }
+        match node.kind {
+            Kind::List => self.list(lexeme.end, levels, node, nodes),
+            Kind::Object => self.object(lexeme.end, levels, node, nodes),
+            Kind::Variable => self.variable(lexeme.end, node, nodes),
+            _ => {
+                nodes.add(node)?;
+                Ok(lexeme.end)
             }
         }
     }
-}
 
-// The part of the text or the pool that is a member's name, if the token is one.
-fn name_part(lexeme: Lexeme<'_>, language: Language, pool: &mut Vec<u8>) -> Result<Part, Fault>
-    requires { (text : Listing ℕ) × Lexed language text lexeme }
-    ensures { (text : Listing ℕ) (k : Lexed language text lexeme.entry) → NamePartTold language text pool.old.items pool.new.items lexeme.entry.start k.token result }
-{
-    match (language, lexeme.token) {
-        (Language::Json, Token::Text { raw, plain }) => string_part(
-            lexeme, raw, plain, language, pool,
-        ),
-        (Language::Graphql, Token::Name(_)) => Ok(Part::of_text(lexeme.start, lexeme.end)),
-        _ => Err(Fault::BadText(lexeme.start)),
+    // The list whose opening mark ends at `at`.
+    #[cycle(items_list_members_object_value)]
+    fn list(self, at: usize, levels: usize, node: Node, nodes: &mut Nodes) -> Result<usize, Fault>
+        requires room { 0 < levels }
+        requires within { at ≤ length self.text.now }
+        ensures { (i : ℕ) (name : Part) → Opened self.entry.manner self.entry.text.now i at (a_mark open_bracket) (list_of node.place nil) (table_of self.entry.text.now nodes.old) name node → Told self.entry.manner self.entry.text.now levels i name (table_of self.entry.text.now nodes.old) (table_of self.entry.text.now nodes.new) nodes.old.names.links.items nodes.new.names.links.items result }
+    {
+        let index = nodes.list.len();
+        nodes.add(node)?;
+        let end = self.items(at, levels - 1, nodes)?;
+        nodes.close(index);
+        Ok(end)
     }
-}
 
-// Whether a name is new among those from `base` on, to which it is added; where names may stand twice, each is new.
-fn register(
-    names: &mut Names,
-    distinct: bool,
-    base: usize,
-    text: &[u8],
-    pool: &[u8],
-    name: Part,
-) -> Result<bool, Fault>
-    ensures { NewTold distinct text.now pool.now base names.old.links.items names.new.links.items name result }
-{
-    if distinct {
-        names.add(base, text, pool, name)
-    } else {
-        Ok(true)
-    }
-}
-
-// The name of a member, and where the colon after it ends. The names before it in the object are those from `base` on.
-fn member_name(
-    text: &[u8],
-    at: usize,
-    base: usize,
-    manner: Manner,
-    nodes: &mut Nodes,
-) -> Result<(Part, usize), Fault>
-    requires within { at ≤ length text.now }
-    requires base { base ≤ length nodes.old.names.links.items }
-    ensures list { nodes.new.list ≡ nodes.old.list }
-    ensures told { (ns : Listing Name) → NamesHeld manner.distinct text.now nodes.old.pool.items nodes.old.names.links.items base ns → NameTold manner text.now at ns base nodes.old.pool.items nodes.new.pool.items nodes.old.names.links.items nodes.new.names.links.items result }
-{
-    let lexeme = token(manner.language, text, at)?;
-    let name = name_part(lexeme, manner.language, &mut nodes.pool)?;
-    if name.len() > LONGEST_NAME {
-        return Err(Fault::BadText(lexeme.start));
-    }
-    let Nodes { names, pool, .. } = nodes;
-    if !register(names, manner.distinct, base, text, pool, name)? {
-        return Err(Fault::RepeatedName(lexeme.start));
-    }
-    let colon = token(manner.language, text, lexeme.end)?;
-    if !is_colon(colon.token) {
-        return Err(Fault::BadText(colon.start));
-    }
-    Ok((name, colon.end))
-}
-
-// The variable whose dollar sign ends at `at`, from its node on.
-fn variable(
-    text: &[u8],
-    at: usize,
-    node: Node,
-    manner: Manner,
-    nodes: &mut Nodes,
-) -> Result<usize, Fault>
-    requires { at ≤ length text.now }
-    ensures { (d i : ℕ) (name : Part) → 0 < d → Opened manner text.now i at (a_mark dollar) (variable_of node.place []) (table_of text.now nodes.old) name node → Told manner text.now d i name (table_of text.now nodes.old) (table_of text.now nodes.new) nodes.old.names.links.items nodes.new.names.links.items result }
-{
-    let lexeme = token(manner.language, text, at)?;
-    let Token::Name(_) = lexeme.token else {
-        return Err(Fault::BadText(lexeme.start));
-    };
-    nodes.add(Node {
-        text: Part::of_text(lexeme.start, lexeme.end),
-        ..node
-    })?;
-    Ok(lexeme.end)
-}
-
-// The value at `at`, with `levels` left for it and what is inside it: where it ends.
-#[cycle(items_list_members_object_value)]
-pub(crate) fn value(
-    text: &[u8],
-    at: usize,
-    levels: usize,
-    name: Part,
-    manner: Manner,
-    nodes: &mut Nodes,
-) -> Result<usize, Fault>
-    requires { at ≤ length text.now }
-    ensures { Told manner text.now levels at name (table_of text.now nodes.old) (table_of text.now nodes.new) nodes.old.names.links.items nodes.new.names.links.items result }
-{
-    let (lexeme, node) = begin(text, at, name, manner, &mut nodes.pool)?;
-    if levels == 0 {
-        return Err(Fault::TooDeep(lexeme.start));
-    }
-    match node.kind {
-        Kind::List => list(text, lexeme.end, levels, node, manner, nodes),
-        Kind::Object => object(text, lexeme.end, levels, node, manner, nodes),
-        Kind::Variable => variable(text, lexeme.end, node, manner, nodes),
-        _ => {
-            nodes.add(node)?;
-            Ok(lexeme.end)
+    // The items of a list after its opening mark: where its closing mark ends.
+    #[cycle(items_list_members_object_value)]
+    fn items(self, at: usize, levels: usize, nodes: &mut Nodes) -> Result<usize, Fault>
+        requires { at ≤ length self.text.now }
+        ensures { ItemsTold self.entry.manner self.entry.text.now levels at (table_of self.entry.text.now nodes.old) (table_of self.entry.text.now nodes.new) nodes.old.names.links.items nodes.new.names.links.items result }
+    {
+        let first = self.token(at)?;
+        if Mark::CloseBracket.is(first.token) {
+            return Ok(first.end);
+        }
+        let mut next = at;
+        loop {
+            let end = self.value(next, levels, Part::EMPTY, nodes)?;
+            match self.step(end, Mark::CloseBracket)? {
+                ControlFlow::Continue(at) => next = at,
+                ControlFlow::Break(end) => return Ok(end),
+            }
         }
     }
-}
 
-// The list whose opening mark ends at `at`.
-#[cycle(items_list_members_object_value)]
-fn list(
-    text: &[u8],
-    at: usize,
-    levels: usize,
-    node: Node,
-    manner: Manner,
-    nodes: &mut Nodes,
-) -> Result<usize, Fault>
-    requires room { 0 < levels }
-    requires within { at ≤ length text.now }
-    ensures { (i : ℕ) (name : Part) → Opened manner text.now i at (a_mark open_bracket) (list_of node.place nil) (table_of text.now nodes.old) name node → Told manner text.now levels i name (table_of text.now nodes.old) (table_of text.now nodes.new) nodes.old.names.links.items nodes.new.names.links.items result }
-{
-    let index = nodes.list.len();
-    nodes.add(node)?;
-    let end = items(text, at, levels - 1, manner, nodes)?;
-    nodes.close(index);
-    Ok(end)
-}
-
-// The items of a list after its opening mark: where its closing mark ends.
-#[cycle(items_list_members_object_value)]
-fn items(
-    text: &[u8],
-    at: usize,
-    levels: usize,
-    manner: Manner,
-    nodes: &mut Nodes,
-) -> Result<usize, Fault>
-    requires { at ≤ length text.now }
-    ensures { ItemsTold manner text.now levels at (table_of text.now nodes.old) (table_of text.now nodes.new) nodes.old.names.links.items nodes.new.names.links.items result }
-{
-    let first = token(manner.language, text, at)?;
-    if closes(first.token, Closing::Bracket) {
-        return Ok(first.end);
+    // The object whose opening mark ends at `at`.
+    #[cycle(items_list_members_object_value)]
+    fn object(self, at: usize, levels: usize, node: Node, nodes: &mut Nodes) -> Result<usize, Fault>
+        requires room { 0 < levels }
+        requires within { at ≤ length self.text.now }
+        ensures { (i : ℕ) (name : Part) → Opened self.entry.manner self.entry.text.now i at (a_mark open_brace) (object_of node.place no_members) (table_of self.entry.text.now nodes.old) name node → Told self.entry.manner self.entry.text.now levels i name (table_of self.entry.text.now nodes.old) (table_of self.entry.text.now nodes.new) nodes.old.names.links.items nodes.new.names.links.items result }
+    {
+        let index = nodes.list.len();
+        let base = nodes.names.len();
+        nodes.add(node)?;
+        let end = self.members(at, levels - 1, base, nodes)?;
+        nodes.names.close(base);
+        nodes.close(index);
+        Ok(end)
     }
-    let mut next = at;
-    loop {
-        let end = value(text, next, levels, Part::EMPTY, manner, nodes)?;
-        match step(manner.language, text, end, Closing::Bracket)? {
-            Step::Again(at) => next = at,
-            Step::Done(end) => return Ok(end),
+
+    // The members of an object after its opening mark: where its closing mark ends. Its names are held from `base` on.
+    #[cycle(items_list_members_object_value)]
+    fn members(
+        self,
+        at: usize,
+        levels: usize,
+        base: usize,
+        nodes: &mut Nodes,
+    ) -> Result<usize, Fault>
+        requires within { at ≤ length self.text.now }
+        requires none { base ≡ length nodes.old.names.links.items }
+        ensures { MembersTold self.entry.manner self.entry.text.now levels at (table_of self.entry.text.now nodes.old) (table_of self.entry.text.now nodes.new) base nodes.old.names.links.items nodes.new.names.links.items result }
+    {
+        let first = self.token(at)?;
+        if Mark::CloseBrace.is(first.token) {
+            return Ok(first.end);
         }
-    }
-}
-
-// The object whose opening mark ends at `at`.
-#[cycle(items_list_members_object_value)]
-fn object(
-    text: &[u8],
-    at: usize,
-    levels: usize,
-    node: Node,
-    manner: Manner,
-    nodes: &mut Nodes,
-) -> Result<usize, Fault>
-    requires room { 0 < levels }
-    requires within { at ≤ length text.now }
-    ensures { (i : ℕ) (name : Part) → Opened manner text.now i at (a_mark open_brace) (object_of node.place no_members) (table_of text.now nodes.old) name node → Told manner text.now levels i name (table_of text.now nodes.old) (table_of text.now nodes.new) nodes.old.names.links.items nodes.new.names.links.items result }
-{
-    let index = nodes.list.len();
-    let base = nodes.names.len();
-    nodes.add(node)?;
-    let end = members(text, at, levels - 1, base, manner, nodes)?;
-    nodes.names.close(base);
-    nodes.close(index);
-    Ok(end)
-}
-
-// The members of an object after its opening mark: where its closing mark ends. Its names are held from `base` on.
-#[cycle(items_list_members_object_value)]
-fn members(
-    text: &[u8],
-    at: usize,
-    levels: usize,
-    base: usize,
-    manner: Manner,
-    nodes: &mut Nodes,
-) -> Result<usize, Fault>
-    requires within { at ≤ length text.now }
-    requires none { base ≡ length nodes.old.names.links.items }
-    ensures { MembersTold manner text.now levels at (table_of text.now nodes.old) (table_of text.now nodes.new) base nodes.old.names.links.items nodes.new.names.links.items result }
-{
-    let first = token(manner.language, text, at)?;
-    if closes(first.token, Closing::Brace) {
-        return Ok(first.end);
-    }
-    let mut next = at;
-    loop {
-        let (name, onward) = member_name(text, next, base, manner, nodes)?;
-        let end = value(text, onward, levels, name, manner, nodes)?;
-        match step(manner.language, text, end, Closing::Brace)? {
-            Step::Again(at) => next = at,
-            Step::Done(end) => return Ok(end),
+        let mut next = at;
+        loop {
+            let (name, onward) = self.member_name(next, base, nodes)?;
+            let end = self.value(onward, levels, name, nodes)?;
+            match self.step(end, Mark::CloseBrace)? {
+                ControlFlow::Continue(at) => next = at,
+                ControlFlow::Break(end) => return Ok(end),
+            }
         }
     }
 }

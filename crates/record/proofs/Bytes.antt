@@ -3,14 +3,9 @@ use Rattle.std.proofs.Common.{◌≡◌, ℕ, ◌+◌, ◌-◌, ◌≤◌, List,
 use borrow.Rule.Slice.PartMut.{put_mid}
 use Rattle.std.proofs.lemmas.List.{drop-drop, take_at, append_assoc, take-append-drop, take-append-le, drop-append-le, length-take-le}
 use Rattle.record.specs.Records.{le32, patched}
-use Rattle.record.specs.Held.{written, size, Kept}
-use Rattle.record.specs.declared.working.Working.{Working}
 
 pub length-patched : (p : ℕ) (bs : List ℕ) → p + 4 ≤ length bs → length (patched p bs) ≡ length bs
 length-patched p bs h = simp (length-append, length-take, length-drop) (omega arith)
-
-pub length-put_mid : (a k : ℕ) (xs ys : List ℕ) → length ys ≡ k → a + k ≤ length xs → length (put_mid a k xs ys) ≡ length xs
-length-put_mid a k xs ys e h = simp (length-append, length-take, length-drop) (omega arith)
 
 pub put_mid_front : (p k n : ℕ) (a b ys : List ℕ) → k ≡ 4 → ys ≡ le32 n → n ≡ length a - (p + 6) → p + 4 ≤ length a → put_mid p k (a ++ b) ys ≡ patched p a ++ b
 put_mid_front p k n a b ys four le size h =
@@ -26,13 +21,3 @@ take-patched u p k n xs ys four le size h within =
     ap (λ zs. take u (put_mid p k zs ys)) (sym (take-append-drop u xs))
     ∙ ap (take u) (put_mid_front p k n (take u xs) (drop u xs) ys four le (omega arith) (omega arith))
     ∙ take_at (patched p (take u xs)) (drop u xs) u (length-patched p (take u xs) (omega arith) ∙ long)
-
-pub written_long : (w : Working) → w.used ≤ size w → length (written w) ≡ w.used
-written_long w h = length-take-le w.used _ h
-
-pub kept_on : (u v w : Working) → Kept u v → Kept v w → Kept u w
-kept_on u v w a b = record { long = b.long ∙ a.long; inside = b.inside }
-
--- bytes that were added in two parts
-pub both : (us vs ws xs ys zs : List ℕ) → vs ≡ us ++ xs → ws ≡ vs ++ ys → zs ≡ xs ++ ys → ws ≡ us ++ zs
-both us vs ws xs ys zs a b e = b ∙ ap (λ z. z ++ ys) a ∙ append_assoc us xs ys ∙ ap (λ z. us ++ z) (sym e)

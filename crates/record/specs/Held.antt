@@ -13,10 +13,18 @@ written w = take w.used w.bytes.now
 abbrev pub size : Working → ℕ
 size w = length w.bytes.now
 
--- as many bytes as before, and no more are written than there are
+-- the same bytes, as many as before, of which no fewer are written
 pub record Kept (v w : Working) : Type 0 where
+  pub same : w.bytes.ghost_name ≡ v.bytes.ghost_name
   pub long : size w ≡ size v
-  pub inside : w.used ≤ size w
+  pub grown : v.used ≤ w.used
+
+-- the bytes xs were written after what was written
+pub record Wrote (v w : Working) (xs : List ℕ) : Type 0 where
+  pub items : written w ≡ written v ++ xs
+  pub used : w.used ≡ v.used + length xs
+  pub same : w.bytes.ghost_name ≡ v.bytes.ghost_name
+  pub long : size w ≡ size v
 
 -- a record was opened: its name if there is one, its header and its body were written
 pub record Begun (v w : Working) (name : Option (Bor (List ℕ))) (body : Body) (start : ℕ) : Type 0 where

@@ -12,7 +12,7 @@ le32 n = (n % 256) ∷ (n / 256 % 256) ∷ (n / 65536 % 256) ∷ (n / 16777216 %
 
 -- a header: the size of the body, and the kind
 abbrev pub header : ℕ → ℕ → List ℕ
-header n k = (n % 256) ∷ (n / 256 % 256) ∷ (n / 65536 % 256) ∷ (n / 16777216 % 256) ∷ k ∷ 0 ∷ []
+header n k = le32 n ++ (k ∷ 0 ∷ [])
 
 -- the record of a member's name, if there is one
 abbrev pub named : Option (Bor (List ℕ)) → List ℕ
@@ -31,7 +31,7 @@ kind_of Object = 7
 
 -- the sign and the exponent of a decimal
 abbrev pub scale : Bool → ℤ → List ℕ
-scale n e = cond n 1 0 ∷ (of_z w32 e % 256) ∷ (of_z w32 e / 256 % 256) ∷ (of_z w32 e / 65536 % 256) ∷ (of_z w32 e / 16777216 % 256) ∷ []
+scale n e = cond n 1 0 ∷ le32 (of_z w32 e)
 
 -- the body of a record as it is opened
 abbrev pub opened : Body → List ℕ

@@ -1,6 +1,9 @@
 // The bodies of records.
 ghost use Rattle.std.specs.Prelude.{◌≡◌, ◌-◌, ◌^◌, min, length};
+ghost use Rattle.record.specs.Kinds.{number_of};
 ghost use Rattle.record.specs.Records.{kind_of, opened};
+
+use crate::kind::{RecordKind, SCALE};
 
 // What a record holds as it is opened. The contents of a list or an object come later.
 #[derive(Clone, Copy, Debug)]
@@ -18,26 +21,23 @@ pub enum Body<'a> {
     Object,
 }
 
-// The sign and the exponent of a decimal, before its digits.
-const SCALE: usize = 5;
-
 impl Body<'_> {
-    // The number of the record's kind.
-    pub fn kind(self) -> u8
-        ensures { result ≡ kind_of self.entry }
+    // The record's kind.
+    pub fn kind(self) -> RecordKind
+        ensures { number_of result ≡ kind_of self.entry }
     {
         match self {
-            Body::Null => 1,
-            Body::Boolean(_) => 2,
-            Body::Whole(_) => 3,
+            Body::Null => RecordKind::Null,
+            Body::Boolean(_) => RecordKind::Boolean,
+            Body::Whole(_) => RecordKind::Whole,
             Body::Decimal {
                 negative: _,
                 exponent: _,
                 digits: _,
-            } => 4,
-            Body::String(_) => 5,
-            Body::List => 6,
-            Body::Object => 7,
+            } => RecordKind::Decimal,
+            Body::String(_) => RecordKind::String,
+            Body::List => RecordKind::List,
+            Body::Object => RecordKind::Object,
         }
     }
 
@@ -49,11 +49,7 @@ impl Body<'_> {
             Body::Null | Body::List | Body::Object => 0,
             Body::Boolean(_) => 1,
             Body::Whole(text) | Body::String(text) => text.len(),
-            Body::Decimal {
-                negative: _,
-                exponent: _,
-                digits,
-            } => digits.len().saturating_add(SCALE),
+            Body::Decimal { digits, .. } => digits.len().saturating_add(SCALE),
         }
     }
 }

@@ -2,5 +2,5 @@
 #![tactic(auto)]
 
 pub mod body;
-pub mod hex;
+pub mod kind;
 pub mod working;

@@ -1,49 +1,57 @@
 // The bytes that a call works in, and the records that are written into them.
 ghost use Rattle.std.specs.Prelude.{◌≡◌, ℕ, ◌+◌, ◌-◌, ◌^◌, ◌<◌, ◌≤◌, min, [], ◌∷◌, ◌++◌, length, replicate, MatchOption};
+ghost use Rattle.record.specs.Kinds.{number_of};
 ghost use Rattle.record.specs.Records.{kind_of, opened, scale, header, named, patched};
-ghost use Rattle.record.specs.Held.{written, size, Kept, Begun, NoRoom};
 
 use crate::body::Body;
-
-// The bytes of a record's header.
-pub const HEADER: usize = 6;
-
-// The kind of the record of a member's name.
-const MEMBER_NAME: u8 = 8;
+use crate::kind::{HEADER, RecordKind};
 
 // Working bytes, of which the first `used` are written. They are cleared on every way out.
 pub struct Working<'a> {
-    pub bytes: &'a mut [u8],
-    pub used: usize,
+    bytes: &'a mut [u8],
+    used: usize,
+    ghost inside: { used ≤ length bytes.now },
 }
 
 // How many bytes the record of a member's name has, if there is one.
 fn name_size(name: Option<&[u8]>) -> usize
     ensures { result ≡ min (length (named name.entry)) (2 ^ 64 - 1) }
 {
-    match name {
-        Some(name) => name.len().saturating_add(HEADER),
-        None => 0,
-    }
+    name.map_or(0, |name| name.len().saturating_add(HEADER))
 }
 
 impl Drop for Working<'_> {
     fn drop(self)
         ensures { self.exit.0.now ≡ replicate (length self.entry.bytes.now) 0 }
     {
-        self.bytes.fill(0);
-        let Working { bytes: _, used: _ } = self;
+        let Working { bytes, used: _ } = self;
+        bytes.fill(0);
     }
 }
 
-impl Working<'_> {
+impl<'a> Working<'a> {
+    ghost use Rattle.record.specs.Held.{written, size, Kept, Wrote, Begun, NoRoom};
+
+    // Bytes of which none are written yet.
+    pub fn new(bytes: &'a mut [u8]) -> Working<'a>
+        ensures same { result.bytes.ghost_name ≡ bytes.entry.ghost_name }
+        ensures bytes { result.bytes.now ≡ bytes.old }
+        ensures used { result.used ≡ 0 }
+    {
+        Working { bytes, used: 0 }
+    }
+
+    // The bytes that are written.
+    pub fn written(&self) -> &[u8]
+        ensures { result.now ≡ written self.now }
+    {
+        &self.bytes[..self.used]
+    }
+
     // Writes `more` after what is written.
     fn put(&mut self, more: &[u8])
         requires { self.old.used + length more.now ≤ size self.old }
-        ensures items { written self.new ≡ written self.old ++ more.now }
-        ensures kept { Kept self.old self.new }
-        ensures used { self.new.used ≡ self.old.used + length more.now }
-        ensures same { self.new.bytes.ghost_name ≡ self.old.bytes.ghost_name }
+        ensures { Wrote self.old self.new more.now }
     {
         let start = self.used;
         let end = start + more.len();
@@ -52,30 +60,23 @@ impl Working<'_> {
     }
 
     // Writes a header.
-    fn put_header(&mut self, count: usize, kind: u8)
+    fn put_header(&mut self, count: usize, kind: RecordKind)
         requires room { self.old.used + 6 ≤ size self.old }
         requires short { count < 2 ^ 32 }
-        ensures items { written self.new ≡ written self.old ++ header count kind }
-        ensures kept { Kept self.old self.new }
-        ensures used { self.new.used ≡ self.old.used + 6 }
-        ensures same { self.new.bytes.ghost_name ≡ self.old.bytes.ghost_name }
+        ensures { Wrote self.old self.new (header count (number_of kind)) }
     {
         let [a, b, c, d] = (count as u32).to_le_bytes();
-        self.put(&[a, b, c, d, kind, 0]);
+        self.put(&[a, b, c, d, u8::from(kind), 0]);
     }
 
     // Writes the record of a member's name, if there is one.
     fn put_name(&mut self, name: Option<&[u8]>)
-        requires inside { self.old.used ≤ size self.old }
         requires room { self.old.used + length (named name) ≤ size self.old }
         requires short { size self.old < 2 ^ 32 }
-        ensures items { written self.new ≡ written self.old ++ named name.entry }
-        ensures kept { Kept self.old self.new }
-        ensures used { self.new.used ≡ self.old.used + length (named name.entry) }
-        ensures same { self.new.bytes.ghost_name ≡ self.old.bytes.ghost_name }
+        ensures { Wrote self.old self.new (named name.entry) }
     {
         if let Some(name) = name {
-            self.put_header(name.len(), MEMBER_NAME);
+            self.put_header(name.len(), RecordKind::Name);
             self.put(name);
         }
     }
@@ -83,28 +84,20 @@ impl Working<'_> {
     // Writes the sign and the exponent of a decimal.
     fn put_scale(&mut self, negative: bool, exponent: i32)
         requires { self.old.used + 5 ≤ size self.old }
-        ensures items { written self.new ≡ written self.old ++ scale negative exponent }
-        ensures kept { Kept self.old self.new }
-        ensures used { self.new.used ≡ self.old.used + 5 }
-        ensures same { self.new.bytes.ghost_name ≡ self.old.bytes.ghost_name }
+        ensures { Wrote self.old self.new (scale negative exponent) }
     {
         let [a, b, c, d] = exponent.to_le_bytes();
-        let sign = if negative { 1 } else { 0 };
-        self.put(&[sign, a, b, c, d]);
+        self.put(&[u8::from(negative), a, b, c, d]);
     }
 
     // Writes a body as it is opened.
     fn put_body(&mut self, body: Body<'_>)
         requires { self.old.used + length (opened body) ≤ size self.old }
-        ensures items { written self.new ≡ written self.old ++ opened body.entry }
-        ensures kept { Kept self.old self.new }
-        ensures used { self.new.used ≡ self.old.used + length (opened body.entry) }
-        ensures same { self.new.bytes.ghost_name ≡ self.old.bytes.ghost_name }
+        ensures { Wrote self.old self.new (opened body.entry) }
     {
         match body {
             Body::Null | Body::List | Body::Object => {}
-            Body::Boolean(true) => self.put(&[1]),
-            Body::Boolean(false) => self.put(&[0]),
+            Body::Boolean(value) => self.put(&[u8::from(value)]),
             Body::Whole(text) | Body::String(text) => self.put(text),
             Body::Decimal {
                 negative,
@@ -119,11 +112,9 @@ impl Working<'_> {
 
     // Opens a record, with the name before it if there is one, and tells where it starts; where there is no room for all of it, nothing is written.
     pub fn begin(&mut self, name: Option<&[u8]>, body: Body<'_>) -> Option<usize>
-        requires inside { self.old.used ≤ size self.old }
-        requires short { size self.old < 2 ^ 32 }
+        requires { size self.old < 2 ^ 32 }
         ensures opened { MatchOption result (NoRoom self.old self.new name.entry body.entry) (λ start. Begun self.old self.new name.entry body.entry start) }
         ensures kept { Kept self.old self.new }
-        ensures same { self.new.bytes.ghost_name ≡ self.old.bytes.ghost_name }
     {
         let count = body.size();
         let whole = name_size(name).saturating_add(HEADER).saturating_add(count);
@@ -139,13 +130,11 @@ impl Working<'_> {
 
     // Writes the size of the body into the header at `start` of the record that reaches to the end.
     pub fn finish(&mut self, start: usize)
-        requires inside { self.old.used ≤ size self.old }
         requires within { start + 6 ≤ self.old.used }
         requires short { size self.old < 2 ^ 32 }
         ensures items { written self.new ≡ patched start (written self.old) }
         ensures kept { Kept self.old self.new }
         ensures used { self.new.used ≡ self.old.used }
-        ensures same { self.new.bytes.ghost_name ≡ self.old.bytes.ghost_name }
     {
         let count = (self.used - (start + HEADER)) as u32;
         let end = start + 4;

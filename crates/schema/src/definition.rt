@@ -1,31 +1,18 @@
 // Schemas: the scalars that a text declares.
-ghost use Rattle.std.specs.Prelude.{◌<◌, ◌≤◌, map, length, IfOk, vec_len};
+ghost use Rattle.std.specs.Prelude.{◌≤◌, map, IfOk, vec_len};
 ghost use Rattle.lookup.specs.First.{First};
 
+use crate::tokens::{Name, Tokens};
 use crate::types::Base;
-use lookup::{Lookup, Named, Table};
-use source::limits::LONGEST_TEXT;
+use lookup::{Lookup, Table};
 use std::alloc::Global;
 use text::fault::Fault;
-use text::graphql;
-use text::token::{Lexeme, Token};
+use text::token::Token;
 
 pub const MOST_SCALARS: usize = 256;
 
-#[derive(Clone, Copy)]
-pub struct Scalar<'a> {
-    pub name: &'a [u8],
-    // The offset of the name in the schema's text.
-    pub place: usize,
-}
-
-impl Named for Scalar<'_> {
-    ghost called = { λ s. s.name.now };
-
-    fn name(&self) -> &[u8] {
-        self.name
-    }
-}
+// A declared scalar, with the place of its name in the schema's text.
+pub type Scalar<'a> = Name<'a>;
 
 #[derive(Drop)]
 pub struct Schema<'a> {
@@ -46,13 +33,9 @@ pub fn built_in(name: &[u8]) -> Option<Base> {
 
 impl<'a> Schema<'a> {
     pub fn base(&self, name: &[u8]) -> Base {
-        if let Some(base) = built_in(name) {
-            return base;
-        }
-        match self.find(name) {
-            Some(index) => Base::Custom(index),
-            None => Base::Unknown,
-        }
+        built_in(name)
+            .or_else(|| self.find(name).map(Base::Custom))
+            .unwrap_or(Base::Unknown)
     }
 
     // The first scalar with the name.
@@ -64,10 +47,10 @@ impl<'a> Schema<'a> {
 
     // The name of a declared scalar; of none the empty name.
     pub fn scalar_name(&self, index: usize) -> &[u8] {
-        if index < self.scalars.len() {
-            return self.scalars[index].name;
+        match self.scalars.get(index) {
+            Some(scalar) => scalar.name,
+            None => b"",
         }
-        b""
     }
 }
 
@@ -75,36 +58,20 @@ impl<'a> Schema<'a> {
 pub fn read_schema(heap: Global, text: &[u8]) -> Result<Schema<'_>, Fault>
     ensures { IfOk result (λ s. vec_len s.scalars ≤ 256) }
 {
-    if text.len() > LONGEST_TEXT {
-        return Err(Fault::BadText(0));
-    }
+    let mut tokens = Tokens::new(text)?;
     let mut scalars = Vec::new(heap);
-    let mut next = 0;
     loop {
-        let lexeme = graphql::token(text, next)?;
+        let lexeme = tokens.next()?;
         match lexeme.token {
             Token::End => return Ok(Schema { scalars }),
             Token::Name(b"scalar") => {
-                let (scalar, end) = scalar_name(text, lexeme.end)?;
+                let scalar = tokens.name()?;
                 if scalars.len() >= MOST_SCALARS {
                     return Err(Fault::NoSpace(scalar.place));
                 }
                 scalars.push(scalar)?;
-                next = end;
             }
             _ => return Err(Fault::BadText(lexeme.start)),
         }
-    }
-}
-
-// The scalar whose name stands at `at`, and where the name ends.
-fn scalar_name(text: &[u8], at: usize) -> Result<(Scalar<'_>, usize), Fault>
-    requires { at ≤ length text.now }
-    ensures { IfOk result (λ p. (at < p.1) × (p.1 ≤ length text.now)) }
-{
-    let Lexeme { token, start, end } = graphql::token(text, at)?;
-    match token {
-        Token::Name(name) => Ok((Scalar { name, place: start }, end)),
-        _ => Err(Fault::BadText(start)),
     }
 }

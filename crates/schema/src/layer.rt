@@ -1,3 +1,5 @@
+use std::fmt;
+
 // The layer that refuses.
 #[derive(Clone, Copy, Debug, PartialEq)]
 pub enum Layer {
@@ -7,13 +9,13 @@ pub enum Layer {
     Request,
 }
 
-impl Layer {
-    pub fn word(self) -> &'static str {
-        match self {
+impl fmt::Display for Layer {
+    fn fmt<W: fmt::Write>(&self, f: &mut fmt::Formatter<W>) -> fmt::Result {
+        f.write_str(match self {
             Layer::Text => "text",
             Layer::Schema => "schema",
             Layer::Value => "value",
             Layer::Request => "request",
-        }
+        })
     }
 }

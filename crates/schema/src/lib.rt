@@ -1,8 +1,10 @@
 // Schemas and operations, and the built-in scalars.
 #![tactic(auto)]
 
+pub mod declaration;
 pub mod definition;
 pub mod layer;
 pub mod operation;
 pub mod scalars;
+pub mod tokens;
 pub mod types;

@@ -12,47 +12,27 @@ const FLOAT_BOUND: &[u8] =
 
 // Whether one whole number is at most another; both are digits, with no leading zero.
 fn at_most(digits: &[u8], bound: &[u8]) -> bool {
-    digits.len() < bound.len() || (digits.len() == bound.len() && digits <= bound)
-}
-
-// The digits of a whole number in normal form, and whether it is negative.
-fn unsigned(text: &[u8]) -> (bool, &[u8]) {
-    if !text.is_empty() && text[0] == b'-' {
-        return (true, &text[1..]);
-    }
-    (false, text)
+    (digits.len(), digits) <= (bound.len(), bound)
 }
 
 // Whether a whole number in normal form lies in the range of Int: -2147483648 to 2147483647.
 pub fn int(text: &[u8]) -> bool {
-    let (negative, digits) = unsigned(text);
-    at_most(digits, if negative { LEAST_INT } else { GREATEST_INT })
+    match text.strip_prefix(b"-") {
+        Some(digits) => at_most(digits, LEAST_INT),
+        None => at_most(text, GREATEST_INT),
+    }
 }
 
 // Whether the magnitude of a whole number in normal form is at most 9007199254740991.
 pub fn safe_integer(text: &[u8]) -> bool {
-    let (_, digits) = unsigned(text);
-    at_most(digits, GREATEST_SAFE)
+    at_most(text.strip_prefix(b"-").unwrap_or(text), GREATEST_SAFE)
 }
 
 // Whether digits × 10^exponent is below 2^1024 - 2^970; the digits have no leading zero unless they are `0`.
 pub fn finite(digits: &[u8], exponent: i32) -> bool {
-    let Ok(count) = i64::try_from(digits.len()) else {
-        return false;
-    };
-    let Ok(places) = usize::try_from(count.saturating_add(i64::from(exponent))) else {
+    let Some(places) = digits.len().checked_add_signed(exponent as isize) else {
         return true;
     };
-    places < FLOAT_BOUND.len() || (places == FLOAT_BOUND.len() && below(digits, FLOAT_BOUND))
-}
-
-// Whether the number that the first digits write, as many as the bound has, is below the bound; zeros follow the digits.
-fn below(digits: &[u8], bound: &[u8]) -> bool {
-    for (i, b) in bound.iter().enumerate() {
-        let digit = if i < digits.len() { digits[i] } else { b'0' };
-        if digit != *b {
-            return digit < *b;
-        }
-    }
-    false
+    // Zeros may follow the digits, but the last digit of the bound is none.
+    (places, digits) < (FLOAT_BOUND.len(), FLOAT_BOUND)
 }

@@ -1,11 +1,10 @@
-// Types of variables.
-ghost use Rattle.std.specs.Prelude.{◌≡◌, ◌-◌, ◌<◌, ◌≤◌, length, IfOk, nat_lt};
-ghost use Rattle.text.specs.Places.{Placed, is_end};
+// Types of variables and fields.
+ghost use Rattle.std.specs.Prelude.{◌≡◌, ◌-◌, ◌≤◌, ◌↔◌, true, IfOk, IsTrue, nat_lt, slice_get};
+ghost use Rattle.schema.specs.Reading.{Onward};
 
-use crate::definition::Schema;
+use crate::tokens::{Name, Tokens};
 use text::fault::Fault;
-use text::graphql;
-use text::token::{Lexeme, Token};
+use text::token::Token;
 
 pub const MOST_LEVELS: usize = 8;
 
@@ -17,114 +16,125 @@ pub enum Base {
     String,
     Boolean,
     Id,
-    // The index of a declared scalar.
+    // The indices of declared types: of scalars, enums and input objects.
     Custom(usize),
+    Enum(usize),
+    Input(usize),
+    // No input type.
+    Output,
     Unknown,
 }
 
+// A type, without its name in a text.
 #[derive(Clone, Copy)]
-pub struct Type<'a> {
-    pub base: Base,
-    pub name: &'a [u8],
-    // The offset of the name in its text.
-    pub place: usize,
+pub struct Shape<B = Base> {
+    // What the name stands for.
+    pub base: B,
     // How many lists stand around the name.
     pub levels: usize,
     // Of the name itself at 0, of each list around it at 1 and up, of the whole type at `levels`.
     pub non_null: [bool; 9],
 }
 
-impl<'a> Type<'a> {
-    pub fn is_list(&self) -> bool
-        ensures { result ≡ nat_lt 0 self.now.levels }
+impl<B: Copy> Shape<B> {
+    pub fn is_list(self) -> bool
+        ensures { result ≡ nat_lt 0 self.levels }
     {
         self.levels > 0
     }
 
-    pub fn is_non_null(&self) -> bool {
-        self.levels < self.non_null.len() && self.non_null[self.levels]
+    pub fn is_non_null(self) -> bool
+        ensures { IsTrue result ↔ (slice_get self.non_null self.levels ≡ Some true) }
+    {
+        self.non_null.get(self.levels) == Some(&true)
     }
 
     // The type of a list's items; of a type that is no list, the type itself.
-    pub fn item(&self) -> Type<'a>
-        ensures { result.levels ≡ self.now.levels - 1 }
+    pub fn item(self) -> Shape<B>
+        ensures { result ≡ record self { levels = self.levels - 1 } }
     {
-        Type {
-            base: self.base,
-            name: self.name,
-            place: self.place,
+        Shape {
             levels: self.levels.saturating_sub(1),
-            non_null: self.non_null,
+            ..self
         }
     }
 }
 
-// The type at `at`, whose name may be one of the schema, and where it ends.
-pub(crate) fn read_type<'a>(
-    schema: &Schema<'_>,
-    text: &'a [u8],
-    at: usize,
-) -> Result<(Type<'a>, usize), Fault>
-    requires { at ≤ length text.now }
-    ensures { IfOk result (λ p. (at < p.1) × (p.1 ≤ length text.now) × (p.0.levels ≤ 8)) }
-{
-    let (levels, inner) = opening(text, at)?;
-    let Lexeme { token, start, end } = inner;
-    let Token::Name(name) = token else {
-        return Err(Fault::BadText(start));
-    };
-    let (bang, mut next) = non_null_mark(text, end)?;
-    let mut non_null = [false; 9];
-    non_null[0] = bang;
-    for level in 1..=levels {
-        let close = graphql::token(text, next)?;
-        let Token::CloseBracket = close.token else {
-            return Err(Fault::BadText(close.start));
-        };
-        let (bang, end) = non_null_mark(text, close.end)?;
-        non_null[level] = bang;
-        next = end;
-    }
-    Ok((
+// A type as a text writes it; of the name it may not be known yet what it stands for.
+#[derive(Clone, Copy)]
+pub struct Type<'a, B = Base> {
+    pub shape: Shape<B>,
+    pub name: &'a [u8],
+    // The offset of the name in its text.
+    pub place: usize,
+}
+
+impl<'a, B: Copy> Type<'a, B> {
+    // The same type where its name stands for `base`.
+    pub fn of<C: Copy>(self, base: C) -> Type<'a, C>
+        ensures shape { result.shape ≡ record { base = base; levels = self.entry.shape.levels; non_null = self.entry.shape.non_null } }
+        ensures name { result.name ≡ self.entry.name }
+        ensures place { result.place ≡ self.entry.place }
+    {
+        let Type { shape, name, place } = self;
+        let Shape {
+            levels,
+            non_null,
+            ..
+        } = shape;
         Type {
-            base: schema.base(name),
+            shape: Shape {
+                base,
+                levels,
+                non_null,
+            },
             name,
-            place: start,
+            place,
+        }
+    }
+}
+
+// The type that comes next.
+pub(crate) fn read_type<'a>(tokens: &mut Tokens<'a>) -> Result<Type<'a, ()>, Fault>
+    ensures { IfOk result (λ ty. Onward 1 tokens.old tokens.new × (ty.shape.levels ≤ 8)) }
+{
+    let levels = opening(tokens)?;
+    let Name { name, place } = tokens.name()?;
+    let mut non_null = [false; 9];
+    non_null[0] = non_null_mark(tokens)?;
+    for mark in &mut non_null[1..=levels] {
+        tokens.expect(|token| matches!(token, Token::CloseBracket))?;
+        *mark = non_null_mark(tokens)?;
+    }
+    Ok(Type {
+        shape: Shape {
+            base: (),
             levels,
             non_null,
         },
-        next,
-    ))
+        name,
+        place,
+    })
 }
 
-// How many `[` stand at `at`, and the token after them.
-fn opening(text: &[u8], at: usize) -> Result<(usize, Lexeme<'_>), Fault>
-    requires { at ≤ length text.now }
-    ensures { IfOk result (λ p. (p.0 ≤ 8) × Placed (length text.now) at p.1.start p.1.end (is_end p.1.token)) }
+// How many `[` come next.
+fn opening(tokens: &mut Tokens<'_>) -> Result<usize, Fault>
+    ensures { IfOk result (λ levels. Onward 0 tokens.old tokens.new × (levels ≤ 8)) }
 {
     let mut levels = 0;
-    let mut next = at;
-    loop {
-        let lexeme = graphql::token(text, next)?;
-        let Token::OpenBracket = lexeme.token else {
-            return Ok((levels, lexeme));
-        };
+    while let Some(place) = tokens.eat(|token| matches!(token, Token::OpenBracket))? {
         if levels >= MOST_LEVELS {
-            return Err(Fault::TooDeep(lexeme.start));
+            return Err(Fault::TooDeep(place));
         }
         levels += 1;
-        next = lexeme.end;
     }
+    Ok(levels)
 }
 
-// Whether a `!` stands at `at`, and where what was read ends.
-fn non_null_mark(text: &[u8], at: usize) -> Result<(bool, usize), Fault>
-    requires { at ≤ length text.now }
-    ensures { IfOk result (λ p. (at ≤ p.1) × (p.1 ≤ length text.now)) }
+// Whether a `!` comes next.
+fn non_null_mark(tokens: &mut Tokens<'_>) -> Result<bool, Fault>
+    ensures { IfOk result (λ _. Onward 0 tokens.old tokens.new) }
 {
-    let lexeme = graphql::token(text, at)?;
-    match lexeme.token {
-        Token::Bang => Ok((true, lexeme.end)),
-        _ => Ok((false, at)),
-    }
+    let bang = tokens.eat(|token| matches!(token, Token::Bang))?;
+    Ok(bang.is_some())
 }

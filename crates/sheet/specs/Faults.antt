@@ -1,5 +1,5 @@
 -- Refused requests: what each case tells.
-use Rattle.std.specs.Prelude.{ℕ, Some, None}
+use Rattle.std.specs.Prelude.{ℕ, Some, None, Option}
 use Rattle.schema.specs.declared.layer.Layer.{Layer}
 use Rattle.schema.specs.declared.layer.Layer.TheVariants.{Request as RequestLayer}
 use Rattle.coercion.specs.declared.fault.Spot.{Spot}
@@ -7,11 +7,11 @@ use Rattle.coercion.specs.Faults.{number_of as value_number, layer_of as value_l
 use Rattle.sheet.specs.declared.fault.RequestFault.{RequestFault}
 use Rattle.sheet.specs.declared.fault.RequestFault.TheVariants.{Value, MissingVariable, NoMemory}
 
--- the number of a refusal; a refused value keeps its own, and want of memory is none and has 0
-abbrev pub number_of : RequestFault → ℕ
+-- the number of a refusal; a refused value keeps its own, and want of memory is none and has no number
+abbrev pub number_of : RequestFault → Option ℕ
 number_of (Value f) = value_number f
-number_of (MissingVariable p v) = 10
-number_of NoMemory = 0
+number_of (MissingVariable p v) = Some 10
+number_of NoMemory = None
 
 -- the layer that refuses
 abbrev pub layer_of : RequestFault → Layer

@@ -1,2 +1,3 @@
-pub mod Loads
 pub mod Faults
+pub mod Loads
+pub mod Loaded

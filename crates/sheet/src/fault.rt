@@ -42,17 +42,14 @@ impl From<AllocError> for RequestFault {
 }
 
 impl RequestFault {
-    // The number of the refusal; 0 for want of memory, which is none.
-    pub fn number(self) -> u8
+    // The number of the refusal; none for want of memory, which is no refusal.
+    pub fn number(self) -> Option<u8>
         ensures { result ≡ number_of self }
     {
         match self {
             RequestFault::Value(fault) => fault.number(),
-            RequestFault::MissingVariable {
-                place: _,
-                variable: _,
-            } => 10,
-            RequestFault::NoMemory => 0,
+            RequestFault::MissingVariable { .. } => Some(10),
+            RequestFault::NoMemory => None,
         }
     }
 
@@ -75,13 +72,9 @@ impl RequestFault {
             RequestFault::MissingVariable { place, variable } => Spot {
                 place,
                 variable: Some(variable),
-                field: None,
+                ..Spot::default()
             },
-            RequestFault::NoMemory => Spot {
-                place: 0,
-                variable: None,
-                field: None,
-            },
+            RequestFault::NoMemory => Spot::default(),
         }
     }
 }

@@ -7,7 +7,7 @@ use Rattle.names.proofs.Growth.{fits_pool, bytes_pool}
 use Rattle.source.specs.declared.nodes.Node.{Node}
 use Rattle.source.specs.Nodes.{node_at}
 use Rattle.source.specs.Table.{Table, Says, Head, Named, Stands, StandsAll, StandsMems, Keeps, past_of}
-use Rattle.source.proofs.Standings.{head_of}
+use Rattle.source.specs.OneTree.{head_of}
 
 pub keeps_all : (T : Table) → Keeps 0 T T
 keeps_all T = record { text = refl; more = []; pool = sym (append-nil T.pool); grows = omega arith; nodes = λ i k l. refl }
@@ -20,9 +20,6 @@ keeps_on {k} {T} {U} {V} a b = record {
   grows = omega (arith, a.grows, b.grows);
   nodes = λ i h l. b.nodes i h (omega (arith, a.grows)) ∙ a.nodes i h l;
 }
-
-pub keeps_fewer : {j k : ℕ} {T U : Table} → j ≤ k → Keeps j T U → Keeps k T U
-keeps_fewer h a = record { text = a.text; more = a.more; pool = a.pool; grows = a.grows; nodes = λ i g l. a.nodes i (omega arith) l }
 
 -- the bytes of a part
 pub fits_kept : {k : ℕ} {T U : Table} → Keeps k T U → (p : Part) → PartFits T.text T.pool p → PartFits U.text U.pool p

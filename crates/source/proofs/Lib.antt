@@ -1,3 +1,2 @@
 pub mod Standings
-pub mod OneTree
 pub mod Keeping

@@ -1,5 +1,5 @@
 -- Trees over the table of nodes.
-use Rattle.std.proofs.Common.{◌≡◌, ℕ, suc, ◌+◌, ◌-◌, ◌<◌, ◌≤◌, true, List, Some, None, sym, ap, subst, ⊎_elim, arith}
+use Rattle.std.proofs.Common.{◌≡◌, ℕ, suc, ◌+◌, ◌-◌, ◌<◌, ◌≤◌, true, List, Some, None, sym, subst, ⊎_elim, arith}
 use mathlib.Core.Option.{some}
 use Rattle.std.proofs.lemmas.Bool.{cond-true, cond-false, cases_Bool}
 use Rattle.model.proofs.CoNames.{same_refl, same_true}
@@ -8,27 +8,9 @@ use Rattle.model.specs.Coercion.{member}
 use Rattle.model.specs.Limits.{RawLimits, RawLimitsAll, RawLimitsMems}
 use Rattle.source.specs.declared.raw.Span.{Span}
 use Rattle.source.specs.Nodes.{node_at}
-use Rattle.source.specs.Table.{Table, Says, Head, Named, Stands, StandsAll, StandsMems, Held, HeldAll, HeldMems, past_of}
+use Rattle.source.specs.Table.{Table, Named, StandsAll, StandsMems, Held, HeldAll, HeldMems, past_of}
 use Rattle.source.specs.Standing.{LeadsItems, LeadsMembers, Found}
-
-pub head_of : (T : Table) (at : ℕ) (t : Raw) → Stands T at t → Head T at t
-head_of T at (null p) h = h.0
-head_of T at (scalar p s) h = h.0
-head_of T at (variable p n) h = h.0
-head_of T at (list p xs) h = h.0
-head_of T at (object p ms) h = h.0
-
-pub says_of : {T : Table} {at : ℕ} {t : Raw} → Held T at t → Says T (node_at T.nodes at) t
-says_of {T} {at} {t} h = (head_of T at t h.stands).says
-
--- what stands in a span ends no sooner than it begins
-pub forward_all : (T : Table) (i j : ℕ) (xs : Raws) → StandsAll T i j xs → i ≤ j
-forward_all T i j nil h = omega (arith, h)
-forward_all T i j (cons x xs) h = omega (arith, (head_of T i x h.0).some, forward_all T (past_of T.nodes i) j xs h.1)
-
-pub forward_mems : (T : Table) (i j : ℕ) (ms : Mems) → StandsMems T i j ms → i ≤ j
-forward_mems T i j end h = omega (arith, h)
-forward_mems T i j (mem n x ms) h = omega (arith, (head_of T i x h.1).some, forward_mems T (past_of T.nodes i) j ms h.2)
+use Rattle.source.specs.OneTree.{head_of, forward_all, forward_mems}
 
 -- what is within the limits at a depth is so at a lesser one
 mutual
@@ -75,31 +57,12 @@ none_members T s (mem m x ms) h n =
     let b = forward_mems T _ s.to ms h.stand.2 in
     n (omega (arith, a, b)) (omega (arith, a)) (omega (arith, a, b))
 
--- the first of a span, and the others
-pub some_items : (T : Table) (s : Span) (xs : Raws) (k : ℕ) → HeldAll T s xs → s.from < s.to → k ≡ (node_at T.nodes s.from).size → LeadsItems (Held T) (HeldAll T) xs (Some (s.from, record { from = s.from + k; to = s.to }))
-some_items T s nil k h l e = absurd (omega (arith, h.stand))
-some_items T s (cons x xs) k h l e = (
-  record { stands = h.stand.0; within = h.within.0 },
-  record { stand = subst (λ j. StandsAll T j s.to xs) (ap (λ j. s.from + j) (sym e)) h.stand.1; within = h.within.1 },
-)
+-- a search among members: at the first, and past it
+module _ (named : ℕ → List ℕ → Type 0) (stands : ℕ → Raw → Type 0) (members : Span → Mems → Type 0) (q : List ℕ) where
+  pub found_here : (ms : Mems) (at : ℕ) (rest : Span) → LeadsMembers named stands members ms (Some (at, rest)) → ((n : List ℕ) → named at n → n ≡ q) → Found stands (member ms q) (Some at)
+  found_here end at rest h e = absurd h
+  found_here (mem n x ms) at rest h e = subst (λ o. Found stands o (Some at)) (sym (cond-true (same n q) (some x) (member ms q) (subst (λ k. same n k ≡ true) (e n h.0) (same_refl n)))) h.1
 
-pub some_members : (T : Table) (s : Span) (ms : Mems) (k : ℕ) → HeldMems T s ms → s.from < s.to → k ≡ (node_at T.nodes s.from).size → LeadsMembers (Named T) (Held T) (HeldMems T) ms (Some (s.from, record { from = s.from + k; to = s.to }))
-some_members T s end k h l e = absurd (omega (arith, h.stand))
-some_members T s (mem n x ms) k h l e = (
-  h.stand.0,
-  record { stands = h.stand.1; within = h.within.1 },
-  record { stand = subst (λ j. StandsMems T j s.to ms) (ap (λ j. s.from + j) (sym e)) h.stand.2; within = h.within.2 },
-)
-
--- a search among members: at the first, past it, and past the last
-pub found_here : (T : Table) (ms : Mems) (at : ℕ) (rest : Span) (q : List ℕ) → LeadsMembers (Named T) (Held T) (HeldMems T) ms (Some (at, rest)) → ((n : List ℕ) → Named T at n → n ≡ q) → Found (Held T) (member ms q) (Some at)
-found_here T end at rest q h e = absurd h
-found_here T (mem n x ms) at rest q h e = subst (λ o. Found (Held T) o (Some at)) (sym (cond-true (same n q) (some x) (member ms q) (subst (λ k. same n k ≡ true) (e n h.0) (same_refl n)))) h.1
-
-pub found_later : (T : Table) (ms : Mems) (at : ℕ) (rest : Span) (q : List ℕ) → LeadsMembers (Named T) (Held T) (HeldMems T) ms (Some (at, rest)) → ((n : List ℕ) → Named T at n → n ≡ q → ⊥) → (ns : Mems) × HeldMems T rest ns × (member ms q ≡ member ns q)
-found_later T end at rest q h e = absurd h
-found_later T (mem n x ms) at rest q h e = (ms, h.2, cond-false (same n q) (some x) (member ms q) (⊎_elim (λ s. absurd (e n h.0 (same_true n q s))) (λ s. s) (cases_Bool (same n q))))
-
-pub found_none : (T : Table) (ms : Mems) (q : List ℕ) → LeadsMembers (Named T) (Held T) (HeldMems T) ms None → Found (Held T) (member ms q) None
-found_none T end q h = tt
-found_none T (mem n x ms) q h = absurd h
+  pub found_later : (ms : Mems) (at : ℕ) (rest : Span) → LeadsMembers named stands members ms (Some (at, rest)) → ((n : List ℕ) → named at n → n ≡ q → ⊥) → (ns : Mems) × members rest ns × (member ms q ≡ member ns q)
+  found_later end at rest h e = absurd h
+  found_later (mem n x ms) at rest h e = (ms, h.2, cond-false (same n q) (some x) (member ms q) (⊎_elim (λ s. absurd (e n h.0 (same_true n q s))) (λ s. s) (cases_Bool (same n q))))

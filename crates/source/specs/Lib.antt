@@ -3,3 +3,4 @@ pub mod Standing
 pub mod Spans
 pub mod Nodes
 pub mod Table
+pub mod OneTree

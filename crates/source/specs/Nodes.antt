@@ -3,12 +3,13 @@ use Rattle.std.specs.Prelude.{◌≡◌, ℕ, ◌-◌, false, cond, List, [], �
 use Rattle.text.specs.declared.fault.Fault.{Fault}
 use Rattle.text.specs.declared.fault.Fault.TheVariants.{NoMemory}
 use Rattle.names.specs.declared.part.Part.{Part}
+use Rattle.names.specs.declared.part.Part.TheVariants.{Text}
 use Rattle.source.specs.declared.raw.Kind.{Kind}
 use Rattle.source.specs.declared.raw.Kind.TheVariants.{Null}
 use Rattle.source.specs.declared.nodes.Node.{Node}
 
 abbrev pub nowhere : Part
-nowhere = record { start = 0; end = 0; pooled = false }
+nowhere = Text 0 0
 
 -- what stands for a node that is not there
 abbrev pub blank : Node

@@ -5,3 +5,4 @@ pub mod limits;
 pub mod nodes;
 pub mod raw;
 pub mod tree;
+pub mod value;

@@ -109,5 +109,15 @@ pub trait Source {
 
     // The value of the member with that name.
     fn member(&self, at: usize, name: &[u8]) -> Option<usize>
-        ensures { (p : ℕ) (ms : Mems) → stands self.now at (object p ms) → Found (stands self.now) (member_of ms name.now) result };
+        ensures { (p : ℕ) (ms : Mems) → stands self.now at (object p ms) → Found (stands self.now) (member_of ms name.now) result }
+    {
+        let mut span = self.inside(at);
+        while let Some((at, rest)) = self.next(span) {
+            if self.name(at) == name {
+                return Some(at);
+            }
+            span = rest;
+        }
+        None
+    }
 }

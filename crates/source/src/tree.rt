@@ -1,17 +1,17 @@
 // A tree of raw values over the text that it was read from.
 ghost use Rattle.std.specs.Prelude.{◌≡◌, ℕ, List as Bytes, IfSome};
 ghost use Rattle.model.specs.Values.{Raw, Raws, Mems, list, object, place_of};
-ghost use Rattle.model.specs.Coercion.{member as member_of};
 ghost use Rattle.names.specs.Parts.{PartFits, bytes_of};
 ghost use Rattle.source.specs.Heads.{kind_of, flag_of, text_of};
-ghost use Rattle.source.specs.Standing.{LeadsItems, LeadsMembers, Found, Scaled};
+ghost use Rattle.source.specs.Standing.{LeadsItems, LeadsMembers, Scaled};
 ghost use Rattle.source.specs.Spans.{Taken, Within};
 ghost use Rattle.source.specs.Nodes.{node_at};
 ghost use Rattle.source.specs.Table.{past_of, tree_table, Held, HeldAll, HeldMems, Named};
 
 use crate::nodes::Nodes;
-use crate::raw::{Kind, Span};
-use names::part::Part;
+use crate::raw::{Kind, Source, Span};
+use crate::value::Literal;
+use names::part::{Holder, Part};
 use text::decimal::Scale;
 
 #[derive(Drop)]
@@ -52,7 +52,10 @@ impl<'a> Tree<'a> {
     fn bytes(&self, part: Part) -> &[u8]
         ensures { PartFits self.now.text.now self.now.nodes.pool.items part → result.now ≡ bytes_of self.now.text.now self.now.nodes.pool.items part }
     {
-        part.bytes(self.text, &self.nodes.pool)
+        part.bytes(Holder {
+            text: self.text,
+            pool: &self.nodes.pool,
+        })
     }
 
     pub fn text(&self, at: usize) -> &[u8]
@@ -74,15 +77,14 @@ impl<'a> Tree<'a> {
         ensures listed { (p : ℕ) (xs : Raws) → Held (tree_table self.now) at (list p xs) → HeldAll (tree_table self.now) result xs }
         ensures fielded { (p : ℕ) (ms : Mems) → Held (tree_table self.now) at (object p ms) → HeldMems (tree_table self.now) result ms }
     {
-        let node = self.nodes.get(at);
-        let holds = matches!(node.kind, Kind::List | Kind::Object);
         let len = self.nodes.list.len();
-        if !holds || at >= len || node.size > len - at {
-            return Span { from: 0, to: 0 };
-        }
-        Span {
-            from: at + 1,
-            to: at + node.size,
+        let node = self.nodes.get(at);
+        match node.kind {
+            Kind::List | Kind::Object if at < len && node.size <= len - at => Span {
+                from: at + 1,
+                to: at + node.size,
+            },
+            _ => Span { from: 0, to: 0 },
         }
     }
 
@@ -109,44 +111,19 @@ impl<'a> Tree<'a> {
         ))
     }
 
-    // The first member with the name among the members of the span.
-    fn find(&self, members: Span, name: &[u8]) -> Option<usize>
-        ensures { (ms : Mems) → HeldMems (tree_table self.now) members ms → Found (Held (tree_table self.now)) (member_of ms name.now) result }
-    {
-        let mut span = members;
-        while let Some((at, rest)) = self.next(span) {
-            if self.name(at) == name {
-                return Some(at);
-            }
-            span = rest;
-        }
-        None
-    }
-
-    // The value of the member with that name.
-    pub fn member(&self, at: usize, name: &[u8]) -> Option<usize>
-        ensures { (p : ℕ) (ms : Mems) → Held (tree_table self.now) at (object p ms) → Found (Held (tree_table self.now)) (member_of ms name.now) result }
-    {
-        self.find(self.inside(at), name)
-    }
-
     // Whether the value is a variable or holds one.
     pub fn holds_variable(&self, at: usize) -> bool {
         let past = at.saturating_add(self.nodes.get(at).size);
-        for below in at..past {
-            if self.kind(below) == Kind::Variable {
-                return true;
-            }
-        }
-        false
+        (at..past).any(|below| self.kind(below) == Kind::Variable)
     }
 
-    // The place of the first member of the object whose name an earlier one has.
+    // The place of the object's first member whose name an earlier member has.
     fn repeated_in(&self, object: usize) -> Option<usize> {
+        let literal = Literal::new(self, object);
         let mut span = self.inside(object);
         while let Some((at, rest)) = self.next(span) {
-            if self.member(object, self.name(at)) != Some(at) {
-                return Some(self.nodes.get(at).name.start);
+            if literal.member(object, self.name(at)) != Some(at) {
+                return Some(self.nodes.get(at).name.start());
             }
             span = rest;
         }
@@ -155,21 +132,9 @@ impl<'a> Tree<'a> {
 
     // The least place of a member's name that an earlier member of the same object has.
     pub fn repeated_member(&self) -> Option<usize> {
-        let mut least: Option<usize> = None;
-        for at in 0..self.nodes.list.len() {
-            if self.kind(at) == Kind::Object {
-                least = sooner(least, self.repeated_in(at));
-            }
-        }
-        least
-    }
-}
-
-// The lesser of two places that may be there.
-pub fn sooner(a: Option<usize>, b: Option<usize>) -> Option<usize> {
-    match (a, b) {
-        (Some(x), Some(y)) => Some(x.min(y)),
-        (Some(x), None) => Some(x),
-        (None, y) => y,
+        (0..self.nodes.list.len())
+            .filter(|at| self.kind(*at) == Kind::Object)
+            .filter_map(|object| self.repeated_in(object))
+            .min()
     }
 }

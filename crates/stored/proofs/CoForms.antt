@@ -1,19 +1,20 @@
 -- The forms of bodies, tested byte by byte.
-use Rattle.std.proofs.Common.{◌≡◌, ℕ, zero, suc, ◌+◌, ◌-◌, ◌*◌, ◌^◌, ◌<◌, ◌≤◌, Bool, true, false, cond, eqb, ltb, ◌≢◌, List, [], ◌∷◌, ◌++◌, length, get_or, take, drop, ℤ, pos, negsuc, IsUtf8, Decides, sym, refl, ap, ◌∙◌, subst, inl, inr, ⊎_elim, arith, length-drop}
+use Rattle.std.proofs.Common.{◌≡◌, ℕ, zero, suc, ◌+◌, ◌-◌, ◌*◌, ◌^◌, ◌<◌, ◌≤◌, Bool, true, false, cond, eqb, ltb, ◌≢◌, List, [], ◌∷◌, ◌++◌, length, get_or, take, drop, ℤ, pos, negsuc, IsUtf8, Decides, Result, sym, refl, ap, ◌∙◌, subst, ⊎_elim, arith, length-drop}
 use Rattle.std.proofs.lemmas.List.{take_all, get_or-drop}
-use Rattle.std.proofs.lemmas.Bool.{cases_lt, eqb-true, lt-ltb, le-ltb}
+use Rattle.std.proofs.lemmas.Bool.{false≢true, cases_lt, eqb-true, lt-ltb, le-ltb}
 use Rattle.text.specs.NumberGrammar.{Digits, none, digit}
 use Rattle.text.specs.NormalForm.{Each, Form, form_zero, form, WholeForm, whole_zero, whole_above, whole_below}
 use Rattle.text.proofs.NormValues.{each_of}
 use Rattle.model.specs.Values.{p_boolean, p_whole, p_decimal, p_string, Rec, r_null, r_plain, r_list, r_object}
 use Rattle.model.specs.Records.{le32, twos, truth, ExponentFits}
 use Rattle.model.specs.Limits.{WholeLimits}
+use Rattle.record.specs.Kinds.{number_of}
+use Rattle.record.specs.declared.kind.RecordKind.{RecordKind}
+use Rattle.record.specs.declared.kind.RecordKind.TheVariants.{Null, Boolean, Whole, Decimal, String, List as ListKind, Object}
 use Rattle.stored.specs.declared.content.Content.{Content}
-use Rattle.stored.specs.Contents.{BooleanForm, Positive, zero_body, DecimalForm, IsLeaf, Long, Senseless, ContentTold, leaf_of, number_of}
+use Rattle.stored.specs.declared.content.BodyError.{BodyError}
+use Rattle.stored.specs.Contents.{BooleanForm, Positive, zero_body, DecimalForm, IsLeaf, Long, Senseless, ContentTold, leaf_of}
 use Rattle.stored.proofs.FrLaws.{bytes_of}
-
-pub untrue : false ≡ true → ⊥
-untrue e = let z : ◌≡◌ {A = ℕ} 0 1 = cc in omega arith
 
 -- BOOLEANS
 
@@ -28,8 +29,8 @@ truth-small : (t : Bool) → truth t ≤ 1
 truth-small true = omega arith
 truth-small false = omega arith
 
-pub boolean_small : (b : List ℕ) → BooleanForm b → get_or b 0 0 ≤ 1
-boolean_small b f = let e = ap (λ l. get_or l 0 0) f.1 in omega (arith, truth-small f.0)
+pub boolean_told : (b : List ℕ) → length b ≡ 1 → get_or b 0 0 ≤ 1 → Decides true (BooleanForm b)
+boolean_told b l h = (λ t. boolean_form_lem b l h, λ f. refl)
 
 -- WHOLE NUMBERS
 
@@ -60,29 +61,20 @@ whole_below_back : {xs : List ℕ} → WholeForm (45 ∷ xs) → Positive xs
 whole_below_back (whole_above a b ds) = absurd (omega arith)
 whole_below_back (whole_below a b ds) = record { each = each_of (digit (omega arith, b) ds); some = omega arith; first = λ e. omega arith }
 
+pub zero_told : (text : List ℕ) → length text ≡ 1 → get_or text 0 0 ≡ 48 → Decides true (WholeForm text)
+zero_told [] l h = absurd (omega arith)
+zero_told (x ∷ []) l h = rw h (λ t. whole_zero, λ w. refl)
+zero_told (x ∷ y ∷ ys) l h = absurd (omega arith)
+
 pub unsigned : (text : List ℕ) (r : Bool) → text ≢ 48 ∷ [] → (0 < length text → get_or text 0 0 ≢ 45) → Decides r (Positive text) → Decides r (WholeForm text)
 unsigned text r n m d = (λ t. above_whole text (d.0 t), λ w. d.1 (whole_above_back w n m))
 
-pub signed : (text : List ℕ) (r : Bool) → 0 < length text → get_or text 0 0 ≡ 45 → Decides r (Positive (drop 1 text)) → Decides r (WholeForm text)
+pub signed : (text : List ℕ) (r : Bool) → 0 < length text → get_or text 0 0 ≡ 45 → Decides r (Positive (take (length text - 1) (drop 1 text))) → Decides r (WholeForm text)
 signed [] r h e d = absurd (omega arith)
-signed (x ∷ xs) r h e d = (λ y. rw e (below_whole xs (d.0 y)), λ w. d.1 (whole_below_back (subst (λ k. WholeForm (k ∷ xs)) e w)))
-
--- the digits from `at` on begin with another than zero
-pub positive_from : (text : List ℕ) (at : ℕ) (r : Bool) → at < length text → get_or text at 0 ≢ 48 → Decides r (Each (take (length text - at) (drop at text))) → Decides r (Positive (drop at text))
-positive_from text at r h n d =
-    let l = length-drop at text in
-    let t = take_all (length text - at) (drop at text) (omega arith) in
-    let z : at + 0 ≡ at = omega arith in
-    let f : get_or (drop at text) 0 0 ≡ get_or text at 0 = get_or-drop at text 0 0 ∙ ap (λ k. get_or text k 0) z in
-    (λ y. record { each = subst Each t (d.0 y); some = omega arith; first = λ e. n (sym f ∙ e) }, λ p. d.1 (subst Each (sym t) p.each))
-
-pub no_positive : (text : List ℕ) (at : ℕ) → (at < length text → get_or text at 0 ≡ 48) → Positive (drop at text) → ⊥
-no_positive text at h p =
-    let l = length-drop at text in
-    let s = p.some in
-    let z : at + 0 ≡ at = omega arith in
-    let f : get_or (drop at text) 0 0 ≡ get_or text at 0 = get_or-drop at text 0 0 ∙ ap (λ k. get_or text k 0) z in
-    p.first (f ∙ h (omega arith))
+signed (x ∷ xs) r h e d =
+    let t : take (length (x ∷ xs) - 1) xs ≡ xs = take_all (length (x ∷ xs) - 1) xs (omega arith) in
+    let p = subst (λ l. Decides r (Positive l)) t d in
+    (λ y. rw e (below_whole xs (p.0 y)), λ w. p.1 (whole_below_back (subst (λ k. WholeForm (k ∷ xs)) e w)))
 
 -- DECIMALS
 
@@ -107,7 +99,7 @@ five (p ∷ q ∷ r ∷ []) h = absurd (omega arith)
 five (p ∷ q ∷ r ∷ s ∷ []) h = absurd (omega arith)
 five (p ∷ q ∷ r ∷ s ∷ t ∷ b) h = refl
 
-pub decimal_zero : (b : List ℕ) → b ≡ zero_body → DecimalForm b
+decimal_zero : (b : List ℕ) → b ≡ zero_body → DecimalForm b
 decimal_zero b e = record { dec = record { negative = false; exponent = pos 0; digits = 48 ∷ [] }; body = sym e; formed = form_zero; fits = omega arith }
 
 last_is : (b : List ℕ) → 5 < length b → get_or (drop 5 b) (length (drop 5 b) - 1) 0 ≡ get_or b (length b - 1) 0
@@ -142,11 +134,11 @@ decimal_some b h s z small p =
     }
 
 -- what a decimal in normal form has, but zero
-pub record Shaped (b : List ℕ) : Type 0 where
-  pub long : 5 < length b
-  pub sign : get_or b 0 0 ≤ 1
-  pub last : get_or b (length b - 1) 0 ≢ 48
-  pub digits : Positive (drop 5 b)
+record Shaped (b : List ℕ) : Type 0 where
+  long : 5 < length b
+  sign : get_or b 0 0 ≤ 1
+  last : get_or b (length b - 1) 0 ≢ 48
+  digits : Positive (drop 5 b)
 
 shaped : {n : Bool} {x : ℤ} {ds : List ℕ} → Form n x ds → (b : List ℕ) → truth n ∷ (le32 (twos x) ++ ds) ≡ b → b ≢ zero_body → Shaped b
 shaped form_zero b e z = absurd (z (sym e))
@@ -163,11 +155,26 @@ shaped {n} {x} {ds} (form each some first last) b e z =
       digits = subst Positive (sym d) (record { each = each; some = some; first = first });
     }
 
-pub decimal_shaped : (b : List ℕ) → b ≢ zero_body → DecimalForm b → Shaped b
+decimal_shaped : (b : List ℕ) → b ≢ zero_body → DecimalForm b → Shaped b
 decimal_shaped b z f = shaped f.formed b f.body z
 
-pub decimal_form_lem : (b : List ℕ) (r : Bool) → b ≢ zero_body → 5 < length b → get_or b 0 0 ≤ 1 → get_or b (length b - 1) 0 ≢ 48 → ((k : ℕ) → get_or b k 0 < 256) → Decides r (Positive (drop 5 b)) → Decides r (DecimalForm b)
-decimal_form_lem b r z h s last small d = (λ y. decimal_some b h s last small (d.0 y), λ f. d.1 (decimal_shaped b z f).digits)
+-- where the last digit is a zero, only zero is in normal form
+pub zero_ended : (b : List ℕ) (r : Bool) → 5 < length b → get_or b (length b - 1) 0 ≡ 48 → Decides r (b ≡ zero_body) → Decides r (DecimalForm b)
+zero_ended b true h last d = (λ t. decimal_zero b (d.0 t), λ f. refl)
+zero_ended b false h last d = (λ t. decimal_zero b (d.0 t), λ f. absurd ((decimal_shaped b (λ e. false≢true (d.1 e)) f).last last))
+
+pub decimal_told : (b : List ℕ) (r : Bool) → 5 ≤ length b → get_or b 0 0 ≤ 1 → (5 < length b → get_or b (length b - 1) 0 ≢ 48) → ((k : ℕ) → get_or b k 0 < 256) → Decides r (Positive (take (length b - 5) (drop 5 b))) → Decides r (DecimalForm b)
+decimal_told b r h s last small d =
+    let l = length-drop 5 b in
+    let p = subst (λ ds. Decides r (Positive ds)) (take_all (length b - 5) (drop 5 b) (omega arith)) d in
+    let z : b ≢ zero_body = λ e. last (let m = ap length e in omega arith) (ap (λ x. get_or x (length x - 1) 0) e) in (
+      λ y.
+          let q = p.0 y in
+          let m = q.some in
+          let n : 5 < length b = omega arith in
+          decimal_some b n s (last n) small q,
+      λ f. p.1 (decimal_shaped b z f).digits,
+    )
 
 -- KINDS
 
@@ -219,11 +226,7 @@ not_long k b x y l = ⊎_elim (λ h. x h.0) (λ h. y h.0) l
 -- a kind whose body is tested
 told_leaf : (k : ℕ) (b : List ℕ) (good : Bool) (P : Type 0) → Decides good P → (P → (r : Rec) × IsLeaf k b r) → ((r : Rec) → IsLeaf k b r → P) → (Long k b → ⊥) → k ≤ 5 → ContentTold k b (leaf_of good)
 told_leaf k b true P d f g l h = f (d.0 refl)
-told_leaf k b false P d f g l h = record { no_leaf = λ r x. untrue (d.1 (g r x)); not_long = l; no_list = λ e. omega arith; no_object = λ e. omega arith }
-
-told_number : (k : ℕ) (b : List ℕ) (long good : Bool) (P : Type 0) → Decides long (Long k b) → Decides good P → ((Long k b → ⊥) → P → (r : Rec) × IsLeaf k b r) → ((r : Rec) → IsLeaf k b r → P) → k ≤ 5 → ContentTold k b (number_of long good)
-told_number k b true good P l d f g h = l.0 refl
-told_number k b false good P l d f g h = told_leaf k b good P d (f (λ x. untrue (l.1 x))) g (λ x. untrue (l.1 x)) h
+told_leaf k b false P d f g l h = record { no_leaf = λ r x. false≢true (d.1 (g r x)); not_long = l; no_list = λ e. omega arith; no_object = λ e. omega arith }
 
 pub empty_decides : (b : List ℕ) (r : Bool) → r ≡ eqb (length b) 0 → Decides r (b ≡ [])
 empty_decides [] r e = (λ t. refl, λ n. e)
@@ -235,22 +238,19 @@ told_null b good d = told_leaf 1 b good (b ≡ []) d (λ e. (r_null, (refl, e)))
 pub told_boolean : (b : List ℕ) (good : Bool) → Decides good (BooleanForm b) → ContentTold 2 b (leaf_of good)
 told_boolean b good d = told_leaf 2 b good (BooleanForm b) d (λ f. (r_plain (p_boolean f.0), (refl, f.1, tt))) (λ r x. by_boolean (leafy 2 b r x)) (not_long 2 b (λ e. omega arith) (λ e. omega arith)) (omega arith)
 
-pub told_whole : (b : List ℕ) (long good : Bool) → Decides long (1000 < length b) → Decides good (WholeForm b) → ContentTold 3 b (number_of long good)
-told_whole b long good l d =
-    told_number 3 b long good (WholeForm b)
-    (λ t. inl (refl, l.0 t), λ x. ⊎_elim (λ h. l.1 h.1) (λ h. absurd (let e = h.0 in omega arith)) x) d
-    (λ n w. (r_plain (p_whole b), (refl, refl, record { formed = w; short = ⊎_elim (λ h. absurd (n (inl (refl, h)))) (λ h. h) (cases_lt 1000 (length b)) })))
-    (λ r x. (by_whole (leafy 3 b r x)).formed) (omega arith)
+pub told_whole : (b : List ℕ) (good : Bool) → length b ≤ 1000 → Decides good (WholeForm b) → ContentTold 3 b (leaf_of good)
+told_whole b good h d =
+    told_leaf 3 b good (WholeForm b) d
+    (λ w. (r_plain (p_whole b), (refl, refl, record { formed = w; short = h })))
+    (λ r x. (by_whole (leafy 3 b r x)).formed)
+    (λ x. ⊎_elim (λ l. omega (arith, l.1)) (λ l. let e = l.0 in omega arith) x) (omega arith)
 
-pub told_decimal : (b : List ℕ) (long good : Bool) → Decides long (1005 < length b) → Decides good (DecimalForm b) → ContentTold 4 b (number_of long good)
-told_decimal b long good l d =
-    told_number 4 b long good (DecimalForm b)
-    (λ t. inr (refl, l.0 t), λ x. ⊎_elim (λ h. absurd (let e = h.0 in omega arith)) (λ h. l.1 h.1) x) d
-    (λ n f.
-    let s : length b ≤ 1005 = ⊎_elim (λ h. absurd (n (inr (refl, h)))) (λ h. h) (cases_lt 1005 (length b)) in
-    let e = ap length f.body in
-    (r_plain (p_decimal f.dec), (refl, f.body, record { formed = f.formed; short = omega arith; fits = f.fits })))
-    (λ r x. (by_decimal (leafy 4 b r x)).0) (omega arith)
+pub told_decimal : (b : List ℕ) (good : Bool) → length b ≤ 1005 → Decides good (DecimalForm b) → ContentTold 4 b (leaf_of good)
+told_decimal b good h d =
+    told_leaf 4 b good (DecimalForm b) d
+    (λ f. let e = ap length f.body in (r_plain (p_decimal f.dec), (refl, f.body, record { formed = f.formed; short = omega arith; fits = f.fits })))
+    (λ r x. (by_decimal (leafy 4 b r x)).0)
+    (λ x. ⊎_elim (λ l. let e = l.0 in omega arith) (λ l. omega (arith, l.1)) x) (omega arith)
 
 pub told_string : (b : List ℕ) (good : Bool) → Decides good (IsUtf8 b) → ContentTold 5 b (leaf_of good)
 told_string b good d = told_leaf 5 b good (IsUtf8 b) d (λ u. (r_plain (p_string b), (refl, refl, u))) (λ r x. by_string (leafy 5 b r x)) (not_long 5 b (λ e. omega arith) (λ e. omega arith)) (omega arith)
@@ -263,5 +263,17 @@ told_other k b h = record {
   no_object = λ e. let g = h (omega arith) in omega arith;
 }
 
-pub moved : (k l : ℕ) (b : List ℕ) (r s : Content) → k ≡ l → r ≡ s → ContentTold l b s → ContentTold k b r
-moved k l b r s e f t = subst (λ n. ContentTold n b r) (sym e) (subst (ContentTold l b) (sym f) t)
+pub told_unknown : (k : ℕ) (b : List ℕ) → ((q : RecordKind) → number_of q ≢ k) → Senseless k b
+told_unknown k b h =
+    let n1 = h Null in
+    let n2 = h Boolean in
+    let n3 = h Whole in
+    let n4 = h Decimal in
+    let n5 = h String in
+    let n6 = h ListKind in
+    let n7 = h Object in
+    told_other k b (λ l. omega arith)
+
+-- by the kind that the number is of
+pub of_kind : {k : ℕ} {q s : RecordKind} {r t : Result Content BodyError} (b : List ℕ) → number_of q ≡ k → q ≡ s → r ≡ t → ContentTold (number_of s) b t → ContentTold k b r
+of_kind {k} {t = t} b n e f x = subst (ContentTold k b) (sym f) (subst (λ m. ContentTold m b t) (ap number_of (sym e) ∙ n) x)

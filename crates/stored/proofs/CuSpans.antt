@@ -1,51 +1,16 @@
 -- Items and members in spans.
-use Rattle.std.proofs.Common.{◌≡◌, ℕ, suc, ◌+◌, ◌≤◌, true, ◌≢◌, List, [], ◌++◌, length, drop, Some, None, sym, refl, ap, ◌∙◌, subst, ⊎_elim, arith, length-append, length-drop}
-use mathlib.Core.Option.{some}
-use Rattle.std.proofs.lemmas.Bool.{cond-true, cond-false, cases_Bool}
-use Rattle.model.specs.Values.{Name, Rec, Recs, Rmems, r_null, r_plain, r_list, r_object, r_nil, r_cons, r_end, r_mem, Raws, Mems, list, object, end, mem, same}
-use Rattle.model.specs.Coercion.{member}
+use Rattle.std.proofs.Common.{◌≡◌, ℕ, ◌+◌, ◌≤◌, ◌≢◌, List, [], ◌++◌, length, drop, Some, None, sym, refl, ap, ◌∙◌, subst, arith, length-append, length-drop}
+use Rattle.model.specs.Values.{Name, Rec, Recs, Rmems, r_nil, r_cons, r_end, r_mem, Raws, Mems}
 use Rattle.model.specs.Records.{kind, body, encode, encode_all, encode_mems, framed}
-use Rattle.model.specs.Limits.{RecLimits, RecLimitsAll, RecLimitsMems}
-use Rattle.model.proofs.CoNames.{same_refl, same_true}
+use Rattle.model.specs.Limits.{RecLimitsAll, RecLimitsMems}
 use Rattle.source.specs.declared.raw.Span.{Span}
-use Rattle.source.specs.Standing.{LeadsItems, LeadsMembers, Found}
+use Rattle.source.specs.Standing.{LeadsItems, LeadsMembers}
 use Rattle.stored.specs.declared.header.Frame.{Frame}
-use Rattle.stored.specs.declared.stored.Target.{Target}
-use Rattle.stored.specs.Frames.{past, Framed, Unframed, Fills, FrameAt}
-use Rattle.stored.specs.Cursors.{shown, shown_all, shown_mems, at_item, at_member, Held, HeldAll, HeldMems, Named, Points}
+use Rattle.stored.specs.Frames.{past, Framed, Unframed, Fills, FrameAt, Valued, an_item, a_member, Valueless, no_record, bare_name}
+use Rattle.stored.specs.Cursors.{shown_all, shown_mems, at_item, at_member, Held, HeldAll, HeldMems, Named}
 use Rattle.stored.specs.OneFrame.{one_framed}
 use Rattle.stored.specs.OneTree.{kind_small}
 use Rattle.stored.proofs.OutSound.{fills_split, fills_framed}
-
--- INSIDE A VALUE
-
-abbrev span_of : Target → Span
-span_of h = record { from = h.from; to = h.end }
-
-filled : {bytes : List ℕ} {p f : ℕ} {r : Rec} {h : Target} → Points bytes p f r h → Fills bytes h.from h.end (body r)
-filled {bytes} {f = f} {r} {h} x = subst (λ i. Fills bytes i h.end (body r)) (sym x.from) (subst (λ e. Fills bytes f e (body r)) (sym x.ends) x.there)
-
-list_span : (bytes : List ℕ) (p f q d : ℕ) (xs : Raws) (h : Target) (r : Rec) → shown p f r ≡ list q xs → Points bytes p f r h → RecLimits d r → length bytes ≤ 65536 → (h.kind ≡ 6) × HeldAll bytes (span_of h) xs
-list_span bytes p f q d xs h r_null e x l n = absurd (let z : ◌≡◌ {A = ℕ} 0 1 = cc in omega arith)
-list_span bytes p f q d xs h (r_plain y) e x l n = absurd (let z : ◌≡◌ {A = ℕ} 0 1 = cc in omega arith)
-list_span bytes p f q d xs h (r_list rs) e x l n =
-    let s : shown_all f rs ≡ xs = cc in
-    (x.kinds, record { values = rs; fills = filled x; shows = ap (λ i. shown_all i rs) x.from ∙ s; depth = suc d; within = l.1; short = n })
-list_span bytes p f q d xs h (r_object ms) e x l n = absurd (let z : ◌≡◌ {A = ℕ} 0 1 = cc in omega arith)
-
-object_span : (bytes : List ℕ) (p f q d : ℕ) (ms : Mems) (h : Target) (r : Rec) → shown p f r ≡ object q ms → Points bytes p f r h → RecLimits d r → length bytes ≤ 65536 → (h.kind ≡ 7) × HeldMems bytes (span_of h) ms
-object_span bytes p f q d ms h r_null e x l n = absurd (let z : ◌≡◌ {A = ℕ} 0 1 = cc in omega arith)
-object_span bytes p f q d ms h (r_plain y) e x l n = absurd (let z : ◌≡◌ {A = ℕ} 0 1 = cc in omega arith)
-object_span bytes p f q d ms h (r_list rs) e x l n = absurd (let z : ◌≡◌ {A = ℕ} 0 1 = cc in omega arith)
-object_span bytes p f q d ms h (r_object ks) e x l n =
-    let s : shown_mems f ks ≡ ms = cc in
-    (x.kinds, record { values = ks; fills = filled x; shows = ap (λ i. shown_mems i ks) x.from ∙ s; depth = suc d; within = l.2; short = n })
-
-pub held_list : (bytes : List ℕ) (at p : ℕ) (xs : Raws) (h : Target) (x : Held bytes at (list p xs)) → Points bytes x.place x.from x.value h → (h.kind ≡ 6) × HeldAll bytes (record { from = h.from; to = h.end }) xs
-held_list bytes at p xs h x y = list_span bytes x.place x.from p x.depth xs h x.value x.shows y x.within x.short
-
-pub held_object : (bytes : List ℕ) (at p : ℕ) (ms : Mems) (h : Target) (x : Held bytes at (object p ms)) → Points bytes x.place x.from x.value h → (h.kind ≡ 7) × HeldMems bytes (record { from = h.from; to = h.end }) ms
-held_object bytes at p ms h x y = object_span bytes x.place x.from p x.depth ms h x.value x.shows y x.within x.short
 
 -- THE NEXT ITEM
 
@@ -81,7 +46,7 @@ unframed_items : (bytes : List ℕ) (i to : ℕ) (rs : Recs) → Unframed bytes 
 unframed_items bytes i to r_nil u n f = tt
 unframed_items bytes i to (r_cons r rs) u n f = absurd (u _ _ (first r (encode_all rs) n f).frame)
 
-pub items_none : (bytes : List ℕ) (s : Span) (xs : Raws) → Unframed bytes s.from s.to → HeldAll bytes s xs → LeadsItems (Held bytes) (HeldAll bytes) xs None
+items_none : (bytes : List ℕ) (s : Span) (xs : Raws) → Unframed bytes s.from s.to → HeldAll bytes s xs → LeadsItems (Held bytes) (HeldAll bytes) xs None
 items_none bytes s xs u h = subst (λ ys. LeadsItems (Held bytes) (HeldAll bytes) ys None) h.shows (unframed_items bytes s.from s.to h.values u h.short h.fills)
 
 framed-items : (bytes : List ℕ) (i to d : ℕ) (h : Frame) (rs : Recs) → FrameAt bytes i to h → length bytes ≤ 65536 → Fills bytes i to (encode_all rs) → RecLimitsAll d rs → LeadsItems (Held bytes) (HeldAll bytes) (shown_all i rs) (Some (i, record { from = h.end; to = to }))
@@ -93,7 +58,7 @@ framed-items bytes i to d h (r_cons r rs) a n f l =
       record { values = rs; fills = subst (λ k. Fills bytes k to (encode_all rs)) (sym e) x.others; shows = ap (λ k. shown_all k rs) e; depth = d; within = l.1; short = n },
     )
 
-pub items_next : (bytes : List ℕ) (s : Span) (xs : Raws) (h : Frame) → FrameAt bytes s.from s.to h → HeldAll bytes s xs → LeadsItems (Held bytes) (HeldAll bytes) xs (Some (s.from, record { from = h.end; to = s.to }))
+items_next : (bytes : List ℕ) (s : Span) (xs : Raws) (h : Frame) → FrameAt bytes s.from s.to h → HeldAll bytes s xs → LeadsItems (Held bytes) (HeldAll bytes) xs (Some (s.from, record { from = h.end; to = s.to }))
 items_next bytes s xs h a x =
     subst (λ ys. LeadsItems (Held bytes) (HeldAll bytes) ys (Some (s.from, record { from = h.end; to = s.to }))) x.shows
     (framed-items bytes s.from s.to x.depth h x.values a x.short x.fills x.within)
@@ -103,7 +68,7 @@ named_items bytes i to h r_nil a k n f = none_left a f
 named_items bytes i to h (r_cons r rs) a k n f = let e = (one_framed a.framed (first r (encode_all rs) n f).frame).0 in let s = kind_small r in omega (arith, s.1)
 
 -- no name stands among items
-pub items_unnamed : (bytes : List ℕ) (s : Span) (xs : Raws) (h : Frame) → FrameAt bytes s.from s.to h → h.kind ≡ 8 → HeldAll bytes s xs → ⊥
+items_unnamed : (bytes : List ℕ) (s : Span) (xs : Raws) (h : Frame) → FrameAt bytes s.from s.to h → h.kind ≡ 8 → HeldAll bytes s xs → ⊥
 items_unnamed bytes s xs h a k x = named_items bytes s.from s.to h x.values a k x.short x.fills
 
 -- THE NEXT MEMBER
@@ -133,7 +98,7 @@ unframed_members : (bytes : List ℕ) (i to : ℕ) (ms : Rmems) → Unframed byt
 unframed_members bytes i to r_end u n f = tt
 unframed_members bytes i to (r_mem m r ms) u n f = absurd (u _ _ (first_member m r (encode_mems ms) n f).name)
 
-pub members_none : (bytes : List ℕ) (s : Span) (ms : Mems) → Unframed bytes s.from s.to → HeldMems bytes s ms → LeadsMembers (Named bytes) (Held bytes) (HeldMems bytes) ms None
+members_none : (bytes : List ℕ) (s : Span) (ms : Mems) → Unframed bytes s.from s.to → HeldMems bytes s ms → LeadsMembers (Named bytes) (Held bytes) (HeldMems bytes) ms None
 members_none bytes s ms u h = subst (λ ks. LeadsMembers (Named bytes) (Held bytes) (HeldMems bytes) ks None) h.shows (unframed_members bytes s.from s.to h.values u h.short h.fills)
 
 other_members : (bytes : List ℕ) (i to : ℕ) (h : Frame) (ms : Rmems) → FrameAt bytes i to h → h.kind ≢ 8 → length bytes ≤ 65536 → Fills bytes i to (encode_mems ms) → ⊥
@@ -141,7 +106,7 @@ other_members bytes i to h r_end a k n f = none_left a f
 other_members bytes i to h (r_mem m r ms) a k n f = k (one_framed a.framed (first_member m r (encode_mems ms) n f).name).0
 
 -- each member starts with a name, and has a value
-pub members_named : (bytes : List ℕ) (s : Span) (ms : Mems) (h : Frame) → FrameAt bytes s.from s.to h → h.kind ≢ 8 → HeldMems bytes s ms → ⊥
+members_named : (bytes : List ℕ) (s : Span) (ms : Mems) (h : Frame) → FrameAt bytes s.from s.to h → h.kind ≢ 8 → HeldMems bytes s ms → ⊥
 members_named bytes s ms h a k x = other_members bytes s.from s.to h x.values a k x.short x.fills
 
 bare_members : (bytes : List ℕ) (i to : ℕ) (h : Frame) (ms : Rmems) → FrameAt bytes i to h → Unframed bytes h.end to → length bytes ≤ 65536 → Fills bytes i to (encode_mems ms) → ⊥
@@ -150,7 +115,7 @@ bare_members bytes i to h (r_mem m r ms) a u n f =
     let x = first_member m r (encode_mems ms) n f in
     u _ _ (subst (λ k. Framed bytes k to (kind r) (body r)) (sym (name_ends m a x.name)) x.value.frame)
 
-pub members_valued : (bytes : List ℕ) (s : Span) (ms : Mems) (h : Frame) → FrameAt bytes s.from s.to h → Unframed bytes h.end s.to → HeldMems bytes s ms → ⊥
+members_valued : (bytes : List ℕ) (s : Span) (ms : Mems) (h : Frame) → FrameAt bytes s.from s.to h → Unframed bytes h.end s.to → HeldMems bytes s ms → ⊥
 members_valued bytes s ms h a u x = bare_members bytes s.from s.to h x.values a u x.short x.fills
 
 framed-members : (bytes : List ℕ) (i to d : ℕ) (h g : Frame) (ms : Rmems) → FrameAt bytes i to h → FrameAt bytes h.end to g → length bytes ≤ 65536 → Fills bytes i to (encode_mems ms) → RecLimitsMems d ms → LeadsMembers (Named bytes) (Held bytes) (HeldMems bytes) (shown_mems i ms) (Some (i, record { from = g.end; to = to }))
@@ -165,21 +130,25 @@ framed-members bytes i to d h g (r_mem m r ms) a b n f l =
       record { values = ms; fills = subst (λ k. Fills bytes k to (encode_mems ms)) (sym e) v.others; shows = ap (λ k. shown_mems k ms) e; depth = d; within = l.2; short = n },
     )
 
-pub members_next : (bytes : List ℕ) (s : Span) (ms : Mems) (h g : Frame) → FrameAt bytes s.from s.to h → FrameAt bytes h.end s.to g → HeldMems bytes s ms → LeadsMembers (Named bytes) (Held bytes) (HeldMems bytes) ms (Some (s.from, record { from = g.end; to = s.to }))
+members_next : (bytes : List ℕ) (s : Span) (ms : Mems) (h g : Frame) → FrameAt bytes s.from s.to h → FrameAt bytes h.end s.to g → HeldMems bytes s ms → LeadsMembers (Named bytes) (Held bytes) (HeldMems bytes) ms (Some (s.from, record { from = g.end; to = s.to }))
 members_next bytes s ms h g a b x =
     subst (λ ks. LeadsMembers (Named bytes) (Held bytes) (HeldMems bytes) ks (Some (s.from, record { from = g.end; to = s.to }))) x.shows
     (framed-members bytes s.from s.to x.depth h g x.values a b x.short x.fills x.within)
 
--- A SEARCH AMONG MEMBERS: at the first, past it, and past the last
+-- WHAT STARTS THE SPAN
 
-pub found_here : (bytes : List ℕ) (ms : Mems) (at : ℕ) (rest : Span) (q : List ℕ) → LeadsMembers (Named bytes) (Held bytes) (HeldMems bytes) ms (Some (at, rest)) → ((n : List ℕ) → Named bytes at n → n ≡ q) → Found (Held bytes) (member ms q) (Some at)
-found_here bytes end at rest q h e = absurd h
-found_here bytes (mem n x ms) at rest q h e = subst (λ o. Found (Held bytes) o (Some at)) (sym (cond-true (same n q) (some x) (member ms q) (subst (λ k. same n k ≡ true) (e n h.0) (same_refl n)))) h.1
+pub items_valueless : (bytes : List ℕ) (s : Span) (xs : Raws) → Valueless bytes s.from s.to → HeldAll bytes s xs → LeadsItems (Held bytes) (HeldAll bytes) xs None
+items_valueless bytes s xs (no_record u) h = items_none bytes s xs u h
+items_valueless bytes s xs (bare_name {g = g} a k u) h = absurd (items_unnamed bytes s xs g a k h)
 
-pub found_later : (bytes : List ℕ) (ms : Mems) (at : ℕ) (rest : Span) (q : List ℕ) → LeadsMembers (Named bytes) (Held bytes) (HeldMems bytes) ms (Some (at, rest)) → ((n : List ℕ) → Named bytes at n → n ≡ q → ⊥) → (ns : Mems) × HeldMems bytes rest ns × (member ms q ≡ member ns q)
-found_later bytes end at rest q h e = absurd h
-found_later bytes (mem n x ms) at rest q h e = (ms, h.2, cond-false (same n q) (some x) (member ms q) (⊎_elim (λ s. absurd (e n h.0 (same_true n q s))) (λ s. s) (cases_Bool (same n q))))
+pub members_valueless : (bytes : List ℕ) (s : Span) (ms : Mems) → Valueless bytes s.from s.to → HeldMems bytes s ms → LeadsMembers (Named bytes) (Held bytes) (HeldMems bytes) ms None
+members_valueless bytes s ms (no_record u) h = members_none bytes s ms u h
+members_valueless bytes s ms (bare_name {g = g} a k u) h = absurd (members_valued bytes s ms g a u h)
 
-pub found_none : (bytes : List ℕ) (ms : Mems) (q : List ℕ) → LeadsMembers (Named bytes) (Held bytes) (HeldMems bytes) ms None → Found (Held bytes) (member ms q) None
-found_none bytes end q h = tt
-found_none bytes (mem n x ms) q h = absurd h
+pub items_first : {i : ℕ} (bytes : List ℕ) (s : Span) (xs : Raws) (h : Frame) → Valued bytes s.from s.to i h → HeldAll bytes s xs → LeadsItems (Held bytes) (HeldAll bytes) xs (Some (s.from, record { from = h.end; to = s.to }))
+items_first bytes s xs h (an_item a k) x = items_next bytes s xs h a x
+items_first bytes s xs h (a_member {g = g} a k b) x = absurd (items_unnamed bytes s xs g a k x)
+
+pub members_first : {i : ℕ} (bytes : List ℕ) (s : Span) (ms : Mems) (h : Frame) → Valued bytes s.from s.to i h → HeldMems bytes s ms → LeadsMembers (Named bytes) (Held bytes) (HeldMems bytes) ms (Some (s.from, record { from = h.end; to = s.to }))
+members_first bytes s ms h (an_item a k) x = absurd (members_named bytes s ms h a k x)
+members_first bytes s ms h (a_member {g = g} a k b) x = members_next bytes s ms g h a b x

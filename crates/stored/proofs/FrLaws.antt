@@ -1,13 +1,13 @@
 -- Records that stand in bytes.
-use Rattle.std.proofs.Common.{◌≡◌, ℕ, ◌+◌, ◌*◌, ◌/◌, ◌%◌, ◌^◌, ◌<◌, ◌≤◌, List, ◌∷◌, ◌++◌, length, get_or, drop, sym, ap, ◌∙◌, arith}
+use Rattle.std.proofs.Common.{◌≡◌, ℕ, ◌+◌, ◌-◌, ◌*◌, ◌/◌, ◌%◌, ◌^◌, ◌<◌, ◌≤◌, List, ◌∷◌, ◌++◌, length, min, get_or, take, drop, refl, sym, ap, ◌∙◌, arith}
 use native.Mathlib.Nat.{div-div-eq-div-mul}
-use Rattle.std.proofs.lemmas.List.{get_or-drop, drop_more}
-use Rattle.text.proofs.NormSettle.{length_part}
-use Rattle.text.proofs.NormValues.{rest_is}
+use Rattle.std.proofs.lemmas.List.{get_or-drop, get_or-take, drop_more}
+use Rattle.text.proofs.LexBase.{cut, length_part}
 use Rattle.text.specs.Cuts.{part}
 use Rattle.model.specs.Records.{framed}
-use Rattle.stored.specs.Frames.{Framed, FrameAt}
+use Rattle.stored.specs.Frames.{Framed, Unframed, FrameAt}
 use Rattle.stored.specs.Past.{size_at}
+use Rattle.stored.specs.OneFrame.{inside}
 
 -- the bytes of a header
 pub record Heads (bytes : List ℕ) (i n k : ℕ) : Type 0 where
@@ -86,9 +86,9 @@ joined bytes i from size z b s e l d =
 pub frame_is : (bytes : List ℕ) (i to from size : ℕ) → i + 6 ≤ length bytes → Small bytes i → size ≡ size_at bytes i → from ≡ i + 6 → from + size ≤ to → from + size ≤ length bytes → get_or bytes (i + 5) 0 ≡ 0 → FrameAt bytes i to (record { kind = get_or bytes (i + 4) 0; from = from; end = from + size })
 frame_is bytes i to from size room small is at fits within zero =
     let b = part bytes from (from + size) in
-    let l : length b ≡ size = length_part bytes from (from + size) (omega arith) within ∙ omega arith in
+    let l : length b ≡ size = length_part bytes from (from + size) within ∙ omega arith in
     let whole : drop i bytes ≡ framed (get_or bytes (i + 4) 0) b ++ drop (from + size) bytes =
-    six bytes i room ∙ joined bytes i from size (get_or bytes (i + 5) 0) b small zero (l ∙ is) (ap (λ k. drop k bytes) (sym at) ∙ rest_is bytes from (from + size) (omega arith)) in
+    six bytes i room ∙ joined bytes i from size (get_or bytes (i + 5) 0) b small zero (l ∙ is) (ap (λ k. drop k bytes) (sym at) ∙ cut bytes from (from + size) (omega arith)) in
     record {
       framed = record { rest = drop (from + size) bytes; there = whole; small = omega arith; within = omega arith };
       starts = at;
@@ -97,3 +97,41 @@ frame_is bytes i to from size room small is at fits within zero =
       within = fits;
       inside = within;
     }
+
+-- what was cut from the bytes, at i
+pub record Cut (bytes : List ℕ) (i top : ℕ) (xs : List ℕ) : Type 0 where
+  pub is : xs ≡ take (top - i) (drop i bytes)
+  pub long : length xs + i ≡ top
+  pub within : top ≤ length bytes
+
+cut_byte : {bytes xs : List ℕ} {i top : ℕ} (k : ℕ) → Cut bytes i top xs → k < length xs → get_or xs k 0 ≡ get_or bytes (i + k) 0
+cut_byte {bytes} {i = i} {top} k c h = ap (λ l. get_or l k 0) c.is ∙ get_or-take (top - i) (drop i bytes) k 0 (let l = c.long in omega arith) ∙ get_or-drop i bytes k 0
+
+-- the size in a header that was cut from the bytes
+cut_size : {bytes xs : List ℕ} {i top : ℕ} (size : ℕ) → Cut bytes i top xs → 6 ≤ length xs → size ≡ get_or xs 0 0 + get_or xs 1 0 * 256 + get_or xs 2 0 * 65536 + get_or xs 3 0 * 16777216 → size ≡ size_at bytes i
+cut_size {bytes} {i = i} size c six_long is =
+    let b0 = cut_byte 0 c (omega arith) ∙ ap (λ k. get_or bytes k 0) (let e : i + 0 ≡ i = omega arith in e) in
+    let b1 = cut_byte 1 c (omega arith) in
+    let b2 = cut_byte 2 c (omega arith) in
+    let b3 = cut_byte 3 c (omega arith) in
+    omega arith
+
+-- no record stands where the size says more bytes than there are
+pub overlong : (bytes xs : List ℕ) (i to top size : ℕ) → Cut bytes i top xs → top ≡ min to (length bytes) → 6 ≤ length xs → size ≡ get_or xs 0 0 + get_or xs 1 0 * 256 + get_or xs 2 0 * 65536 + get_or xs 3 0 * 16777216 → length xs - 6 < size → Unframed bytes i to
+overlong bytes xs i to top size c least six_long is more k b f =
+    let s = cut_size size c six_long is in
+    let l = c.long in
+    let z = size_is f in
+    let w = f.within in
+    let n = inside f in
+    omega arith
+
+-- a header that was cut from the bytes
+pub frame_in : (bytes xs : List ℕ) (i to top size : ℕ) → Cut bytes i top xs → top ≤ to → 6 ≤ length xs → Small bytes i → size ≡ get_or xs 0 0 + get_or xs 1 0 * 256 + get_or xs 2 0 * 65536 + get_or xs 3 0 * 16777216 → get_or xs 5 0 ≡ 0 → size ≤ length xs - 6 → FrameAt bytes i to (record { kind = get_or xs 4 0; from = i + 6; end = i + 6 + size })
+frame_in bytes xs i to top size c up six_long small is zero fits =
+    let l = c.long in
+    let w = c.within in
+    let s = cut_size size c six_long is in
+    let b4 = cut_byte 4 c (omega arith) in
+    let b5 = cut_byte 5 c (omega arith) in
+    rw b4 (frame_is bytes i to (i + 6) size (omega arith) small s refl (omega arith) (omega arith) (omega arith))

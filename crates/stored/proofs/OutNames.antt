@@ -1,11 +1,10 @@
 -- No name stands twice: each is new after those before it.
 use Rattle.std.proofs.Common.{◌≡◌, false, List, [], ◌∷◌, ◌++◌, sym, refl, ap, ◌∙◌, ⊎_elim}
-use Rattle.std.proofs.lemmas.Bool.{cases_Bool}
+use Rattle.std.proofs.lemmas.Bool.{false≢true, cases_Bool}
 use Rattle.model.specs.Values.{Name, Rmems, r_end, r_mem, same, has}
 use Rattle.model.specs.Back.{Distinct}
 use Rattle.model.specs.Limits.{rec_names}
 use Rattle.model.proofs.CoNames.{same_refl, same_true, has_none}
-use Rattle.stored.proofs.CoForms.{untrue}
 
 abbrev pub New : List Name → Rmems → Type 0
 New ns r_end = Unit {0}
@@ -16,7 +15,7 @@ Apart ns [] = Unit {0}
 Apart ns (m ∷ ms) = (has ns m ≡ false) × Apart ns ms
 
 same_flip : (m n : Name) → same m n ≡ false → same n m ≡ false
-same_flip m n e = ⊎_elim (λ t. absurd (untrue (sym e ∙ ap (λ x. same m x) (same_true n m t) ∙ same_refl m))) (λ f. f) (cases_Bool (same n m))
+same_flip m n e = ⊎_elim (λ t. absurd (false≢true (sym e ∙ ap (λ x. same m x) (same_true n m t) ∙ same_refl m))) (λ f. f) (cases_Bool (same n m))
 
 has_push : (ns : List Name) (n m : Name) → has ns m ≡ false → same n m ≡ false → has (ns ++ n ∷ []) m ≡ false
 has_push [] n m h e = rw e

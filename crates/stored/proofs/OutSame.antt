@@ -1,5 +1,6 @@
 -- Reading has one outcome.
 use Rattle.std.proofs.Common.{◌≡◌, ℕ, ◌+◌, ◌-◌, ◌<◌, ◌≤◌, true, false, ◌⊎◌, List, [], ◌∷◌, ◌++◌, length, sym, refl, ap, ◌∙◌, subst, inl, inr, ⊎_elim, arith}
+use Rattle.std.proofs.lemmas.Bool.{false≢true}
 use Rattle.text.specs.declared.fault.Fault.TheVariants.{BadText, TooDeep, RepeatedName, LongNumber}
 use Rattle.model.specs.Values.{Name, p_boolean, p_whole, p_decimal, p_string, Rec, Recs, Rmems, r_null, r_plain, r_list, r_object, r_nil, r_end, has}
 use Rattle.model.specs.Records.{kind, body, encode, framed, Fits}
@@ -8,7 +9,7 @@ use Rattle.stored.specs.Frames.{past, Framed, Unframed}
 use Rattle.stored.specs.Contents.{IsLeaf, Long, Senseless, Sensible, a_leaf, a_list, an_object}
 use Rattle.stored.specs.Outcomes.{Out, got, fails, as_list, as_object, ahead, ahead_member, NameAt, Unnamed, Reads, r_none, r_bad, r_long, r_deep, r_leaf, r_items, r_members, ReadsItems, i_end, i_fails, i_more, ReadsMembers, m_end, m_unnamed, m_repeated, m_fails, m_more, ReadsSheet, all_long, all_members}
 use Rattle.stored.specs.OneFrame.{one_framed, inside}
-use Rattle.stored.proofs.CoForms.{Leafy, l_null, l_boolean, l_whole, l_decimal, l_string, leafy, leafy_kind, untrue}
+use Rattle.stored.proofs.CoForms.{Leafy, l_null, l_boolean, l_whole, l_decimal, l_string, leafy, leafy_kind}
 
 -- WHAT A RECORD SAYS
 
@@ -188,13 +189,13 @@ repeated_members : {bytes : List ℕ} {d i to : ℕ} {ns : List Name} {n : Name}
 repeated_members h a t (m_end e) = absurd (omega arith)
 repeated_members h a t (m_unnamed l u) = absurd (u _ a)
 repeated_members h a t (m_repeated l n u) = refl
-repeated_members {ns = ns} h a t (m_fails l n u e x) = absurd (untrue (sym u ∙ ap (has ns) (sym (one_name a n)) ∙ t))
-repeated_members {ns = ns} h a t (m_more l n u e x y z) = absurd (untrue (sym u ∙ ap (has ns) (sym (one_name a n)) ∙ t))
+repeated_members {ns = ns} h a t (m_fails l n u e x) = absurd (false≢true (sym u ∙ ap (has ns) (sym (one_name a n)) ∙ t))
+repeated_members {ns = ns} h a t (m_more l n u e x y z) = absurd (false≢true (sym u ∙ ap (has ns) (sym (one_name a n)) ∙ t))
 
 view_members : {bytes : List ℕ} {d i to : ℕ} {ns : List Name} {n : Name} {o : Out Rmems} → i < to → NameAt bytes i to n → has ns n ≡ false → ReadsMembers bytes d ns i to o → (p : Out Rec) × Reads bytes d (past i n) to p × AfterMember bytes d ns n to o p
 view_members h a t (m_end e) = absurd (omega arith)
 view_members h a t (m_unnamed l u) = absurd (u _ a)
-view_members {ns = ns} h a t (m_repeated l n u) = absurd (untrue (sym t ∙ ap (has ns) (one_name a n) ∙ u))
+view_members {ns = ns} h a t (m_repeated l n u) = absurd (false≢true (sym t ∙ ap (has ns) (one_name a n) ∙ u))
 view_members {bytes} {d} {i} {to} {n = n} h a t (m_fails {f = f} l m u e x) =
     (fails f, subst (λ k. Reads bytes d k to (fails f)) (sym (ap (past i) (one_name a m) ∙ e)) x, refl)
 view_members {bytes} {d} {i} {to} {ns} {n} {o} h a t (m_more {e = e} {r = r} {q} l m u c x y z) =

@@ -4,7 +4,7 @@ use Rattle.std.proofs.lemmas.Bool.Decides.{nat_tests}
 use Rattle.source.specs.declared.raw.Span.{Span}
 use Rattle.source.specs.Spans.{Taken}
 use Rattle.stored.specs.declared.header.Frame.{Frame}
-use Rattle.stored.specs.Frames.{FrameAt}
+use Rattle.stored.specs.Frames.{FrameAt, Valued, an_item, a_member}
 use Rattle.stored.specs.Past.{kind_at, end_at, past_at}
 use Rattle.stored.proofs.FrLaws.{heads, size_is}
 
@@ -43,13 +43,11 @@ past_member {bytes} {at} {h = h} {j} a k b =
 
 -- THE REST OF A SPAN
 
-pub taken_item : {bytes : List ℕ} {h : Frame} (span : Span) → FrameAt bytes span.from span.to h → h.kind ≢ 8 → Taken (past_at bytes span.from) span span.from (record { from = h.end; to = span.to })
-taken_item span a k =
+pub taken_valued : {bytes : List ℕ} {i : ℕ} {h : Frame} (span : Span) → Valued bytes span.from span.to i h → Taken (past_at bytes span.from) span span.from (record { from = h.end; to = span.to })
+taken_valued span (an_item a k) =
     let p = past_item a k in
     record { first = refl; onward = omega (arith, a.starts, a.forward); from = sym p; to = refl; inside = omega (arith, a.within) }
-
-pub taken_member : {bytes : List ℕ} {h j : Frame} (span : Span) → FrameAt bytes span.from span.to h → h.kind ≡ 8 → FrameAt bytes h.end span.to j → Taken (past_at bytes span.from) span span.from (record { from = j.end; to = span.to })
-taken_member span a k b =
+taken_valued span (a_member a k b) =
     let p = past_member a k b in
     record { first = refl; onward = omega (arith, a.starts, a.forward, b.starts, b.forward); from = sym p; to = refl; inside = omega (arith, b.within) }
 

@@ -1,24 +1,24 @@
 -- What the turns of reading keep.
-use Rattle.std.proofs.Common.{◌≡◌, ℕ, ◌-◌, ◌<◌, ◌≤◌, Bool, true, false, ◌≢◌, List, [], ◌∷◌, ◌++◌, length, take, Ok, Decides, sym, refl, ap, ◌∙◌, subst, arith}
-use Rattle.std.proofs.lemmas.List.{take_all, drop_all}
+use Rattle.std.proofs.Common.{◌≡◌, ℕ, ◌-◌, ◌<◌, ◌≤◌, Bool, true, false, List, [], ◌∷◌, ◌++◌, length, take, Some, None, Option, Ok, Err, Result, Decides, sym, refl, ap, ◌∙◌, subst, arith}
+use Rattle.std.proofs.lemmas.Bool.{false≢true}
+use Rattle.std.specs.Option.{ok_or}
 use Rattle.text.specs.declared.fault.Fault.{Fault}
 use Rattle.text.specs.declared.fault.Fault.TheVariants.{BadText, TooDeep, NoSpace, RepeatedName, LongNumber, NoMemory}
 use Rattle.model.specs.Values.{Rec, Recs, Rmems, r_list, r_object, r_nil, r_cons, r_end, r_mem, has}
 use Rattle.model.specs.Limits.{NameLimits}
 use Rattle.names.specs.declared.names.Link.{Link}
-use Rattle.names.specs.declared.part.Part.{Part}
-use Rattle.names.specs.Parts.{PartFits, bytes_of}
-use Rattle.names.specs.Index.{Sound, AddTold, names_of, names_from}
-use Rattle.names.proofs.Growth.{sound_none}
+use Rattle.names.specs.declared.part.Part.TheVariants.{Text}
+use Rattle.names.specs.Index.{Sound, AddTold, names_from}
 use Rattle.stored.specs.declared.header.Frame.{Frame}
 use Rattle.stored.specs.declared.content.Content.{Content}
-use Rattle.stored.specs.declared.content.Content.TheVariants.{Bad, Long as LongContent, Leaf, List as ListContent, Object}
-use Rattle.stored.specs.Frames.{Framed, body_in, FrameAt}
-use Rattle.stored.specs.Contents.{IsLeaf, Sensible, a_leaf, a_list, an_object, ContentTold}
-use Rattle.stored.specs.Outcomes.{got, fails, NameAt, Unnamed, Reads, r_leaf, r_items, r_members, ReadsItems, i_end, i_fails, i_more, ReadsMembers, m_end, m_fails, m_more}
+use Rattle.stored.specs.declared.content.Content.TheVariants.{Leaf, List as ListContent, Object}
+use Rattle.stored.specs.declared.content.BodyError.{BodyError}
+use Rattle.stored.specs.declared.content.BodyError.TheVariants.{BadForm, LongNumber as LongBody}
+use Rattle.stored.specs.Frames.{Framed, body_in, FrameAt, FrameTold}
+use Rattle.stored.specs.Contents.{IsLeaf, Sensible, a_leaf, a_list, an_object, fault_at, ContentTold}
+use Rattle.stored.specs.Outcomes.{got, fails, NameAt, Unnamed, Reads, r_bad, r_long, r_leaf, r_items, r_members, ReadsItems, i_end, i_fails, i_more, ReadsMembers, m_end, m_fails, m_more}
 use Rattle.stored.specs.Told.{Blames, ValueAt, NewName}
 use Rattle.stored.specs.OneFrame.{one_framed}
-use Rattle.stored.proofs.CoForms.{untrue}
 
 -- a blame that is passed on
 pub blames_on : (g : Fault) (P Q : Fault → Type 0) → ((f : Fault) → P f → Q f) → Blames g P → Blames g Q
@@ -29,31 +29,41 @@ blames_on (RepeatedName k) P Q m x = m (RepeatedName k) x
 blames_on (LongNumber k) P Q m x = m (LongNumber k) x
 blames_on NoMemory P Q m x = tt
 
+-- the header that was found, or that there is none
+pub found : {bytes : List ℕ} {i to : ℕ} {o : Option Frame} {h : Frame} → o ≡ Some h → FrameTold bytes i to o → FrameAt bytes i to h
+found {bytes} {i} {to} e f = subst (FrameTold bytes i to) e f
+
+pub ok_or_none : {o : Option Frame} {e f : Fault} → Err e ≡ ok_or o f → o ≡ None → e ≡ f
+ok_or_none {o} {e} {f} v n = let w : ◌≡◌ {A = Result Frame Fault} (Err e) (Err f) = subst (λ x. Err e ≡ ok_or x f) n v in cc
+
 -- NAMES
 
-pub other_kind : {bytes : List ℕ} {i to : ℕ} {h : Frame} → FrameAt bytes i to h → h.kind ≢ 8 → Unnamed bytes i to
-other_kind f k n a = k (one_framed f.framed a.framed).0
+pub other_kind : {bytes : List ℕ} {i to : ℕ} {h : Frame} {r : Bool} → FrameAt bytes i to h → Decides r (h.kind ≡ 8) → r ≡ false → Unnamed bytes i to
+other_kind f d e n a = false≢true (sym e ∙ d.1 (one_framed f.framed a.framed).0)
 
-pub not_formed : {bytes : List ℕ} {i to : ℕ} {h : Frame} {r : Bool} → FrameAt bytes i to h → Decides r (NameLimits (body_in bytes h)) → r ≡ false → Unnamed bytes i to
-not_formed f d e n a = untrue (sym e ∙ d.1 (subst NameLimits (sym (one_framed f.framed a.framed).1) a.within))
+pub not_formed : {bytes xs : List ℕ} {i to : ℕ} {h : Frame} {r : Bool} → FrameAt bytes i to h → xs ≡ body_in bytes h → Decides r (NameLimits xs) → r ≡ false → Unnamed bytes i to
+not_formed f x d e n a = false≢true (sym e ∙ d.1 (subst NameLimits (sym (x ∙ (one_framed f.framed a.framed).1)) a.within))
 
-pub name_at : {bytes : List ℕ} {i to : ℕ} {h : Frame} {r : Bool} → FrameAt bytes i to h → h.kind ≡ 8 → Decides r (NameLimits (body_in bytes h)) → r ≡ true → NameAt bytes i to (body_in bytes h)
-name_at {bytes} {i} {to} {h} f k d t = record { framed = subst (λ n. Framed bytes i to n (body_in bytes h)) k f.framed; within = d.0 t }
+pub name_at : {bytes xs : List ℕ} {i to : ℕ} {h : Frame} {r : Bool} → FrameAt bytes i to h → h.kind ≡ 8 → xs ≡ body_in bytes h → Decides r (NameLimits xs) → r ≡ true → NameAt bytes i to (body_in bytes h)
+name_at {bytes} {i = i} {to} {h} f k x d t = record { framed = subst (λ n. Framed bytes i to n (body_in bytes h)) k f.framed; within = subst NameLimits x (d.0 t) }
 
-pub has_it : (bytes : List ℕ) (base : ℕ) (before after : List Link) (p : Part) (h : Frame) (b : Bool) → p ≡ record { start = h.from; end = h.end; pooled = false } → b ≡ false → AddTold bytes [] base before after p (Ok b) → h.from ≤ h.end → h.end ≤ length bytes → Sound bytes [] before base → has (names_from bytes [] before base) (body_in bytes h) ≡ true
-has_it bytes base before after p h true e f t l m s = absurd (untrue (sym f))
-has_it bytes base before after p h false e f t l m s =
-    let fits : PartFits bytes [] p = rw e (l, m) in
-    subst (λ q. has (names_from bytes [] before base) (bytes_of bytes [] q) ≡ true) e (t.1 fits s)
+pub has_it : (bytes : List ℕ) (base : ℕ) (before after : List Link) (h : Frame) (b : Bool) → b ≡ false → AddTold bytes [] base before after (Text h.from h.end) (Ok b) → h.from ≤ h.end → h.end ≤ length bytes → Sound bytes [] before base → has (names_from bytes [] before base) (body_in bytes h) ≡ true
+has_it bytes base before after h true f t l m s = absurd (false≢true (sym f))
+has_it bytes base before after h false f t l m s = t.1 (l, m) s
 
 -- VALUES
 
-pub sensible : (k : ℕ) (b : List ℕ) (x : Content) → ContentTold k b x → x ≢ Bad → x ≢ LongContent → Sensible k b
-sensible k b Bad t n m = absurd (n refl)
-sensible k b LongContent t n m = absurd (m refl)
-sensible k b Leaf t n m = a_leaf t.0 t.1
-sensible k b ListContent t n m = a_list t
-sensible k b Object t n m = an_object t
+pub content_told : (k : ℕ) {b : List ℕ} (c : List ℕ) {x y : Result Content BodyError} → x ≡ y → b ≡ c → ContentTold k b x → ContentTold k c y
+content_told k c {x} e f t = subst (ContentTold k c) e (subst (λ l. ContentTold k l x) f t)
+
+pub sensible : (k : ℕ) (b : List ℕ) (x : Content) → ContentTold k b (Ok x) → Sensible k b
+sensible k b Leaf t = a_leaf t.0 t.1
+sensible k b ListContent t = a_list t
+sensible k b Object t = an_object t
+
+pub unfit : {bytes : List ℕ} {i to : ℕ} {h : Frame} (d : ℕ) (e : BodyError) → FrameAt bytes i to h → ContentTold h.kind (body_in bytes h) (Err e) → Blames (fault_at e i) (λ g. Reads bytes d i to (fails g))
+unfit d BadForm f t = r_bad f.framed t
+unfit d LongBody f t = r_long f.framed t
 
 module _ {bytes : List ℕ} {d i to : ℕ} {h : Frame} (f : FrameAt bytes i to h) where
   pub leaf_read : 0 < d → (r : Rec) × IsLeaf h.kind (body_in bytes h) r → ValueAt bytes d i to h.end
@@ -95,9 +105,6 @@ pub record SofarItems (bytes : List ℕ) (d i here to : ℕ) : Type 0 where
   pub reads : (rs : Recs) → ReadsItems bytes d here to (got to rs) → (ss : Recs) × ReadsItems bytes d i to (got to ss)
   pub faults : (f : Fault) → ReadsItems bytes d here to (fails f) → ReadsItems bytes d i to (fails f)
 
-pub items_start : {bytes : List ℕ} {d i to : ℕ} → i ≤ to → SofarItems bytes d i i to
-items_start h = record { within = h; reads = λ rs x. (rs, x); faults = λ f x. x }
-
 pub items_step : {bytes : List ℕ} {d i here to e : ℕ} → SofarItems bytes d i here to → here < to → ValueAt bytes d here to e → SofarItems bytes d i e to
 items_step s h v = record {
   within = v.within;
@@ -122,18 +129,6 @@ pub record SofarMembers (bytes : List ℕ) (d i here to base : ℕ) (entry links
   pub reads : (ms : Rmems) → ReadsMembers bytes d (names_from bytes [] links base) here to (got to ms) → (ks : Rmems) × ReadsMembers bytes d [] i to (got to ks)
   pub faults : (f : Fault) → ReadsMembers bytes d (names_from bytes [] links base) here to (fails f) → ReadsMembers bytes d [] i to (fails f)
 
-pub members_start : {bytes : List ℕ} {d i to base : ℕ} {links : List Link} → i ≤ to → base ≡ length links → SofarMembers bytes d i i to base links links
-members_start {bytes} {d} {i} {to} {base} {links} h e =
-    let none : names_from bytes [] links base ≡ [] = ap (names_of bytes []) (drop_all base links (omega arith)) in
-    record {
-      within = h;
-      sound = sound_none bytes [] links base e;
-      longer = omega arith;
-      below = take_all base links (omega arith);
-      reads = λ ms x. (ms, subst (λ ns. ReadsMembers bytes d ns i to (got to ms)) none x);
-      faults = λ f x. subst (λ ns. ReadsMembers bytes d ns i to (fails f)) none x;
-    }
-
 pub members_step : {bytes : List ℕ} {d i here to base c e : ℕ} {entry links mid after : List Link} → SofarMembers bytes d i here to base entry links → here < to → NewName bytes here to base c links mid → ValueAt bytes d c to e → after ≡ mid → SofarMembers bytes d i e to base entry after
 members_step {bytes} {d} {i} {here} {to} {base} {c} {e} {entry} {links} {mid} {after} s h n v k =
     let a = n.added in
@@ -147,10 +142,6 @@ members_step {bytes} {d} {i} {here} {to} {base} {c} {e} {entry} {links} {mid} {a
       reads = λ ms x. s.reads (r_mem n.name v.value ms) (m_more h n.stands a.fresh n.ends v.reads (subst (λ l. ReadsMembers bytes d l e to (got to ms)) on x) refl);
       faults = λ f x. s.faults f (m_more h n.stands a.fresh n.ends v.reads (subst (λ l. ReadsMembers bytes d l e to (fails f)) on x) refl);
     }
-
-pub name_blamed : {bytes : List ℕ} {d i here to base : ℕ} {entry links : List Link} → SofarMembers bytes d i here to base entry links → here < to → (g : Fault) → Blames g (λ x. (n : ℕ) → here < to → ReadsMembers bytes n (names_from bytes [] links base) here to (fails x)) → Blames g (λ x. ReadsMembers bytes d [] i to (fails x))
-name_blamed {bytes} {d} {i} {here} {to} {base} {links = links} s h g x =
-    blames_on g (λ y. (n : ℕ) → here < to → ReadsMembers bytes n (names_from bytes [] links base) here to (fails y)) (λ y. ReadsMembers bytes d [] i to (fails y)) (λ y r. s.faults y (r d h)) x
 
 pub members_blamed : {bytes : List ℕ} {d i here to base c : ℕ} {entry links mid : List Link} → SofarMembers bytes d i here to base entry links → here < to → NewName bytes here to base c links mid → (g : Fault) → Blames g (λ x. Reads bytes d c to (fails x)) → Blames g (λ x. ReadsMembers bytes d [] i to (fails x))
 members_blamed {bytes} {d} {i} {here} {to} {base} {c} s h n g x =

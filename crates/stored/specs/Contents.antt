@@ -1,12 +1,16 @@
 -- What the kind and the body of a record say.
-use Rattle.std.specs.Prelude.{◌≡◌, ℕ, ◌<◌, Bool, cond, ◌≢◌, ◌⊎◌, List, [], ◌∷◌, length, slice_index_or}
+use Rattle.std.specs.Prelude.{◌≡◌, ℕ, ◌<◌, Bool, cond, ◌≢◌, ◌⊎◌, List, [], ◌∷◌, length, slice_index_or, Ok, Err, Result}
 use Rattle.text.specs.NormalForm.{Each}
+use Rattle.text.specs.declared.fault.Fault.{Fault}
+use Rattle.text.specs.declared.fault.Fault.TheVariants.{BadText, LongNumber as LongNumberFault}
 use Rattle.model.specs.Values.{Dec, p_decimal, Rec, r_null, r_plain, r_list, r_object}
 use Rattle.model.specs.Numbers.{NormalDec}
 use Rattle.model.specs.Records.{truth, plain_kind, plain_body, ExponentFits}
 use Rattle.model.specs.Limits.{PlainLimits}
 use Rattle.stored.specs.declared.content.Content.{Content}
-use Rattle.stored.specs.declared.content.Content.TheVariants.{Bad, Long as LongContent, Leaf, List as ListContent, Object}
+use Rattle.stored.specs.declared.content.Content.TheVariants.{Leaf, List as ListContent, Object}
+use Rattle.stored.specs.declared.content.BodyError.{BodyError}
+use Rattle.stored.specs.declared.content.BodyError.TheVariants.{BadForm, LongNumber}
 
 -- the body of a boolean
 abbrev pub BooleanForm : List ℕ → Type 0
@@ -53,16 +57,18 @@ pub data Sensible (k : ℕ) (b : List ℕ) : Type 0 where
   a_list : k ≡ 6 → Sensible k b
   an_object : k ≡ 7 → Sensible k b
 
-abbrev pub leaf_of : Bool → Content
-leaf_of good = cond good Leaf Bad
+abbrev pub leaf_of : Bool → Result Content BodyError
+leaf_of good = cond good (Ok Leaf) (Err BadForm)
 
-abbrev pub number_of : Bool → Bool → Content
-number_of long good = cond long LongContent (leaf_of good)
+-- the fault of a record at a place
+abbrev pub fault_at : BodyError → ℕ → Fault
+fault_at BadForm i = BadText i
+fault_at LongNumber i = LongNumberFault i
 
 -- what the function on contents promises
-abbrev pub ContentTold : ℕ → List ℕ → Content → Type 0
-ContentTold k b Bad = Senseless k b
-ContentTold k b LongContent = Long k b
-ContentTold k b Leaf = (r : Rec) × IsLeaf k b r
-ContentTold k b ListContent = k ≡ 6
-ContentTold k b Object = k ≡ 7
+abbrev pub ContentTold : ℕ → List ℕ → Result Content BodyError → Type 0
+ContentTold k b (Err BadForm) = Senseless k b
+ContentTold k b (Err LongNumber) = Long k b
+ContentTold k b (Ok Leaf) = (r : Rec) × IsLeaf k b r
+ContentTold k b (Ok ListContent) = k ≡ 6
+ContentTold k b (Ok Object) = k ≡ 7

@@ -1,7 +1,6 @@
 -- Which tree stands at a cursor of a sheet's bytes. A cursor is the offset where an item, or a member with its name, starts;
 -- that of the whole tree is the number of the bytes, where no record starts.
-use Rattle.std.specs.Prelude.{◌≡◌, ℕ, ◌+◌, ◌≤◌, cond, List, length, ◌==◌}
-use Rattle.text.specs.Cuts.{part}
+use Rattle.std.specs.Prelude.{◌≡◌, ◌≢◌, ℕ, ◌+◌, ◌-◌, ◌≤◌, cond, List, length, ◌==◌, Some, None, Option}
 use Rattle.model.specs.Values.{Name, Rec, Recs, Rmems, r_null, r_plain, r_list, r_object, r_nil, r_cons, r_end, r_mem, Raw, Raws, Mems, null, scalar, list, object, nil, cons, end, mem}
 use Rattle.model.specs.Back.{as_scalar}
 use Rattle.model.specs.Records.{kind, body, encode, encode_all, encode_mems}
@@ -9,8 +8,12 @@ use Rattle.model.specs.Limits.{RecLimits, RecLimitsAll, RecLimitsMems}
 use Rattle.source.specs.declared.raw.Kind.{Kind}
 use Rattle.source.specs.declared.raw.Kind.TheVariants.{Null, Boolean, Whole, Decimal, String, List as ListKind, Object}
 use Rattle.source.specs.declared.raw.Span.{Span}
+use Rattle.record.specs.Kinds.{number_of}
+use Rattle.record.specs.declared.kind.RecordKind.{RecordKind}
+use Rattle.stored.specs.declared.header.Frame.{Frame}
 use Rattle.stored.specs.declared.stored.Target.{Target}
-use Rattle.stored.specs.Frames.{past, Framed, Fills}
+use Rattle.stored.specs.Frames.{past, Framed, Fills, body_in}
+use Rattle.stored.specs.Past.{past_at}
 
 -- a record as a raw value: p is its place, f is where its body starts
 abbrev mutual
@@ -68,16 +71,34 @@ Named bytes at n = Framed bytes at (length bytes) 8 n
 -- what the cursor's record is found to be
 pub record Points (bytes : List ℕ) (p f : ℕ) (r : Rec) (h : Target) : Type 0 where
   pub place : h.place ≡ p
-  pub kinds : h.kind ≡ kind r
+  pub kinds : number_of h.kind ≡ kind r
   pub from : h.from ≡ f
-  pub ends : h.end ≡ f + length (body r)
-  pub bodies : part bytes h.from h.end ≡ body r
+  pub bodies : h.body.now ≡ body r
   pub there : Fills bytes f (f + length (body r)) (body r)
 
--- a record lies within the bytes, or there is none
-pub record Lies (bytes : List ℕ) (h : Target) : Type 0 where
-  pub forward : h.from ≤ h.end
-  pub inside : h.end ≤ length bytes
+-- a record lies within the bytes, and past the cursor where its value ends there is room for all in it;
+-- whichever record the cursor leads to, it is that
+pub record Follows (bytes : List ℕ) (at : ℕ) (h : Target) : Type 0 where
+  pub lies : h.from + length h.body.now ≤ length bytes
+  pub narrow : length h.body.now ≤ past_at bytes at - at - 1
+  pub points : (p f : ℕ) (x : Rec) → Leads bytes at p f x → Points bytes p f x h
+
+-- the record that the cursor leads to, or that there is none
+abbrev pub FollowTold : List ℕ → ℕ → Option Target → Type 0
+FollowTold bytes at None = (p f : ℕ) (x : Rec) → Leads bytes at p f x → ⊥
+FollowTold bytes at (Some h) = Follows bytes at h
+
+-- the record at a place, by its frame
+pub record OfFrame (bytes : List ℕ) (at : ℕ) (frame : Frame) (h : Target) : Type 0 where
+  pub place : h.place ≡ at
+  pub kinds : number_of h.kind ≡ frame.kind
+  pub from : h.from ≡ frame.from
+  pub body : h.body.now ≡ body_in bytes frame
+
+-- the frame's record, or that no kind has its number
+abbrev pub TargetTold : List ℕ → ℕ → Frame → Option Target → Type 0
+TargetTold bytes at frame None = (q : RecordKind) → number_of q ≢ frame.kind
+TargetTold bytes at frame (Some h) = OfFrame bytes at frame h
 
 -- the kind of a raw value, by the number of a record's
 abbrev pub kind_for_lem : ℕ → Kind

@@ -1,5 +1,5 @@
 -- Records in a sheet's bytes.
-use Rattle.std.specs.Prelude.{◌≡◌, ℕ, ◌+◌, ◌^◌, ◌<◌, ◌≤◌, List, ◌++◌, length, drop, Some, None, Option}
+use Rattle.std.specs.Prelude.{◌≡◌, ◌≢◌, ℕ, ◌+◌, ◌^◌, ◌<◌, ◌≤◌, List, ◌++◌, length, drop, Some, None, Option}
 use Rattle.text.specs.Cuts.{part}
 use Rattle.model.specs.Records.{framed}
 use Rattle.stored.specs.declared.header.Frame.{Frame}
@@ -40,3 +40,17 @@ pub record FrameAt (bytes : List ℕ) (i to : ℕ) (h : Frame) : Type 0 where
 abbrev pub FrameTold : List ℕ → ℕ → ℕ → Option Frame → Type 0
 FrameTold bytes i to None = Unframed bytes i to
 FrameTold bytes i to (Some h) = FrameAt bytes i to h
+
+-- what starts at i is an item, or a member with its name: the place of its value's record, and the record's header
+pub data Valued (bytes : List ℕ) (i to : ℕ) : ℕ → Frame → Type 0 where
+  an_item : {h : Frame} → FrameAt bytes i to h → h.kind ≢ 8 → Valued bytes i to i h
+  a_member : {g h : Frame} → FrameAt bytes i to g → g.kind ≡ 8 → FrameAt bytes g.end to h → Valued bytes i to g.end h
+
+-- nothing starts at i, or a name with no value after it
+pub data Valueless (bytes : List ℕ) (i to : ℕ) : Type 0 where
+  no_record : Unframed bytes i to → Valueless bytes i to
+  bare_name : {g : Frame} → FrameAt bytes i to g → g.kind ≡ 8 → Unframed bytes g.end to → Valueless bytes i to
+
+abbrev pub ValuedTold : List ℕ → ℕ → ℕ → Option (ℕ × Frame) → Type 0
+ValuedTold bytes i to None = Valueless bytes i to
+ValuedTold bytes i to (Some p) = Valued bytes i to p.0 p.1

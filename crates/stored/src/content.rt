@@ -1,68 +1,80 @@
 // The bodies of records.
-ghost use Rattle.std.specs.Prelude.{◌≡◌, drop, IsUtf8, Decides};
-ghost use Rattle.text.specs.NormalForm.{Each, WholeForm};
+ghost use Rattle.std.specs.Prelude.{◌≡◌, IsUtf8, Decides};
+ghost use Rattle.text.specs.NormalForm.{WholeForm};
 ghost use Rattle.model.specs.Limits.{NameLimits};
-ghost use Rattle.stored.specs.Contents.{BooleanForm, Positive, zero_body, DecimalForm, leaf_of, number_of, ContentTold};
+ghost use Rattle.stored.specs.declared.content.BodyError.TheVariants.{BadForm};
+ghost use Rattle.stored.specs.Contents.{BooleanForm, Positive, zero_body, DecimalForm, leaf_of, fault_at, ContentTold};
 
-use crate::header::{BOOLEAN, DECIMAL, LIST, NULL, OBJECT, SCALE, STRING, WHOLE};
+use record::kind::{RecordKind, SCALE, UnknownKind};
 use source::limits::LONGEST_NAME;
 use std::str::from_utf8;
+use text::fault::Fault;
+use text::limits::LONGEST_NUMBER;
 
-// What a record holds, by its kind and body.
+// What a record holds.
 #[derive(Clone, Copy, Debug, PartialEq)]
 pub enum Content {
-    // The body is not what the kind wants, or no value has the kind.
-    Bad,
-    // A number of too many digits.
-    Long,
     // A value that holds no others.
     Leaf,
     List,
     Object,
 }
 
-// The most bytes of a whole number, and the most digits of a decimal.
-const LONGEST_NUMBER: usize = 1000;
+// Why a record holds no value.
+#[derive(Clone, Copy, Debug, PartialEq)]
+pub enum BodyError {
+    // The body is not what the kind wants, or no value has the kind.
+    BadForm,
+    // A number of too many digits.
+    LongNumber,
+}
+
+impl From<UnknownKind> for BodyError {
+    ghost from_gives = { λ _ e. e ≡ BadForm };
+
+    fn from(_kind: UnknownKind) -> BodyError {
+        Self::BadForm
+    }
+}
+
+impl BodyError {
+    // That fault of the record at `place`.
+    pub fn at(self, place: usize) -> Fault
+        ensures { result ≡ fault_at self place }
+    {
+        match self {
+            BodyError::BadForm => Fault::BadText(place),
+            BodyError::LongNumber => Fault::LongNumber(place),
+        }
+    }
+}
 
 // A boolean: 0 or 1.
 fn boolean_form(body: &[u8]) -> bool
     ensures { Decides result (BooleanForm body.now) }
 {
-    body.len() == 1 && body[0] <= 1
+    matches!(body, [0 | 1])
 }
 
-fn all_digits(text: &[u8]) -> bool
-    ensures { Decides result (Each text.now) }
+// Digits that do not begin with a zero.
+fn positive(digits: &[u8]) -> bool
+    ensures { Decides result (Positive digits.now) }
 {
-    for b in text {
-        if *b < b'0' || *b > b'9' {
-            return false;
-        }
+    match digits {
+        [b'1'..=b'9', rest @ ..] => rest.iter().all(u8::is_ascii_digit),
+        _ => false,
     }
-    true
-}
-
-// Digits from `at` on that do not begin with a zero.
-fn positive(text: &[u8], at: usize) -> bool
-    ensures { Decides result (Positive (drop at text.now)) }
-{
-    if at >= text.len() || text[at] == b'0' {
-        return false;
-    }
-    all_digits(&text[at..])
 }
 
 // A whole number in normal form.
 fn whole_form(text: &[u8]) -> bool
     ensures { Decides result (WholeForm text.now) }
 {
-    if text == b"0".as_slice() {
-        return true;
+    match text {
+        [b'0'] => true,
+        [b'-', digits @ ..] => positive(digits),
+        digits => positive(digits),
     }
-    if text.is_empty() || text[0] != b'-' {
-        return positive(text, 0);
-    }
-    positive(text, 1)
 }
 
 // The decimal 0.
@@ -76,13 +88,11 @@ fn zero(body: &[u8]) -> bool
 fn decimal_form(body: &[u8]) -> bool
     ensures { Decides result (DecimalForm body.now) }
 {
-    if zero(body) {
-        return true;
+    match body {
+        [0 | 1, _, _, _, _, .., b'0'] => zero(body),
+        [0 | 1, _, _, _, _, digits @ ..] => positive(digits),
+        _ => false,
     }
-    if body.len() <= SCALE || body[0] > 1 || body[body.len() - 1] == b'0' {
-        return false;
-    }
-    positive(body, SCALE)
 }
 
 fn text_form(body: &[u8]) -> bool
@@ -98,29 +108,26 @@ pub fn name_form(body: &[u8]) -> bool
     body.len() <= LONGEST_NAME && text_form(body)
 }
 
-fn leaf(good: bool) -> Content
+fn leaf(good: bool) -> Result<Content, BodyError>
     ensures { result ≡ leaf_of good }
 {
-    if good { Content::Leaf } else { Content::Bad }
+    good.then_some(Content::Leaf).ok_or(BodyError::BadForm)
 }
 
-fn number(long: bool, good: bool) -> Content
-    ensures { result ≡ number_of long good }
-{
-    if long { Content::Long } else { leaf(good) }
-}
-
-pub fn holds(kind: u8, body: &[u8]) -> Content
+// What a record holds, by the number of its kind and its body.
+pub fn holds(kind: u8, body: &[u8]) -> Result<Content, BodyError>
     ensures { ContentTold kind body.now result }
 {
-    match kind {
-        NULL => leaf(body.is_empty()),
-        BOOLEAN => leaf(boolean_form(body)),
-        WHOLE => number(body.len() > LONGEST_NUMBER, whole_form(body)),
-        DECIMAL => number(body.len() > SCALE + LONGEST_NUMBER, decimal_form(body)),
-        STRING => leaf(text_form(body)),
-        LIST => Content::List,
-        OBJECT => Content::Object,
-        _ => Content::Bad,
+    match RecordKind::try_from(kind)? {
+        RecordKind::Null => leaf(body.is_empty()),
+        RecordKind::Boolean => leaf(boolean_form(body)),
+        RecordKind::Whole if body.len() > LONGEST_NUMBER => Err(BodyError::LongNumber),
+        RecordKind::Whole => leaf(whole_form(body)),
+        RecordKind::Decimal if body.len() > SCALE + LONGEST_NUMBER => Err(BodyError::LongNumber),
+        RecordKind::Decimal => leaf(decimal_form(body)),
+        RecordKind::String => leaf(text_form(body)),
+        RecordKind::List => Ok(Content::List),
+        RecordKind::Object => Ok(Content::Object),
+        RecordKind::Name => Err(BodyError::BadForm),
     }
 }

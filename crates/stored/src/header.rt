@@ -1,30 +1,10 @@
 // The headers of records: the length of the body in four bytes and the kind in two, little-endian.
-ghost use Rattle.stored.specs.Frames.{FrameTold};
+ghost use Rattle.std.specs.Prelude.{◌≡◌, ◌≤◌, length, Decides};
+ghost use Rattle.stored.specs.Frames.{FrameTold, ValuedTold, body_in};
 
-const HEADER: usize = 6;
+use record::kind::{HEADER, RecordKind};
 
-// The kinds of records.
-pub const NULL: u8 = 1;
-
-pub const BOOLEAN: u8 = 2;
-
-pub const WHOLE: u8 = 3;
-
-pub const DECIMAL: u8 = 4;
-
-pub const STRING: u8 = 5;
-
-pub const LIST: u8 = 6;
-
-pub const OBJECT: u8 = 7;
-
-// That of a member's name, which is no value.
-pub const NAME: u8 = 8;
-
-// The sign and the exponent of a decimal, before its digits.
-pub const SCALE: usize = 5;
-
-// The kind of a record, and where its body stands.
+// The number of a record's kind, which need not be that of a kind, and where its body stands.
 #[derive(Clone, Copy, Debug)]
 pub struct Frame {
     pub kind: u8,
@@ -32,27 +12,52 @@ pub struct Frame {
     pub end: usize,
 }
 
+impl Frame {
+    // Whether the record is a member's name.
+    pub fn is_name(self) -> bool
+        ensures { Decides result (self.kind ≡ 8) }
+    {
+        self.kind == u8::from(RecordKind::Name)
+    }
+
+    // The body, in the bytes that the frame was found in.
+    pub fn body(self, bytes: &[u8]) -> &[u8]
+        requires forward { self.from ≤ self.end }
+        requires inside { self.end ≤ length bytes.now }
+        ensures { result.now ≡ body_in bytes.now self }
+    {
+        &bytes[self.from..self.end]
+    }
+}
+
 // The header of the record at `at`, if the record ends no later than `to` and its kind is below 256.
 pub fn header(bytes: &[u8], at: usize, to: usize) -> Option<Frame>
     ensures { FrameTold bytes.now at to result }
 {
     let to = to.min(bytes.len());
-    if at > to || to - at < HEADER {
+    let [a, b, c, d, kind, 0, rest @ ..] = bytes.get(at..to)? else {
+        return None;
+    };
+    let size = u32::from_le_bytes([*a, *b, *c, *d]) as usize;
+    if size > rest.len() {
         return None;
     }
     let from = at + HEADER;
-    let size = u32::from_le_bytes([
-        bytes[at],
-        bytes[at + 1],
-        bytes[at + 2],
-        bytes[at + 3],
-    ]) as usize;
-    if size > to - from || bytes[at + 5] != 0 {
-        return None;
-    }
     Some(Frame {
-        kind: bytes[at + 4],
+        kind: *kind,
         from,
         end: from + size,
     })
+}
+
+// The record of the value of what starts at `at`, an item or a member with its name: its place and its frame.
+pub fn valued(bytes: &[u8], at: usize, to: usize) -> Option<(usize, Frame)>
+    ensures { ValuedTold bytes.now at to result }
+{
+    let first = header(bytes, at, to)?;
+    if !first.is_name() {
+        return Some((at, first));
+    }
+    let second = header(bytes, first.end, to)?;
+    Some((first.end, second))
 }

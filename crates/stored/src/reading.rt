@@ -1,104 +1,99 @@
 // Records read one after another, and checked against their format and its limits.
-ghost use Rattle.std.specs.Prelude.{◌≤◌, [], length};
+ghost use Rattle.std.specs.Prelude.{◌≡◌, ◌≤◌, [], length};
 ghost use Rattle.names.specs.Index.{Sound};
 ghost use Rattle.stored.specs.Told.{ValueTold, ItemsTold, MembersTold, NameTold};
 
 use crate::content::{Content, holds, name_form};
-use crate::header::{Frame, NAME, header};
+use crate::header::header;
 use names::names::Names;
-use names::part::Part;
+use names::part::{Holder, Part};
 use text::fault::Fault;
 
-// The value whose record stands at `at` and ends no later than `to`, with `levels` left for it and what is inside
-// it: where it ends.
-#[cycle(items_members_value)]
-fn value(
-    bytes: &[u8],
-    at: usize,
-    to: usize,
-    levels: usize,
-    names: &mut Names,
-) -> Result<usize, Fault>
-    ensures { ValueTold bytes.now levels at to names.old.links.items names.new.links.items result }
-{
-    let Some(frame) = header(bytes, at, to) else {
-        return Err(Fault::BadText(at));
-    };
-    let Frame { kind, from, end } = frame;
-    match holds(kind, &bytes[from..end]) {
-        Content::Bad => return Err(Fault::BadText(at)),
-        Content::Long => return Err(Fault::LongNumber(at)),
-        _ if levels == 0 => return Err(Fault::TooDeep(at)),
-        Content::Leaf => {}
-        Content::List => items(bytes, from, end, levels - 1, names)?,
-        Content::Object => members(bytes, from, end, levels - 1, names)?,
-    }
-    Ok(end)
+// The bytes of a sheet, and the names of the members that are being read.
+#[derive(Drop)]
+pub(crate) struct Reader<'a> {
+    pub bytes: &'a [u8],
+    pub names: Names,
 }
 
-// The items of a list from `from` to `to`.
-#[cycle(items_members_value)]
-fn items(
-    bytes: &[u8],
-    from: usize,
-    to: usize,
-    levels: usize,
-    names: &mut Names,
-) -> Result<(), Fault>
-    requires { from ≤ to }
-    ensures { ItemsTold bytes.now levels from to names.old.links.items names.new.links.items result }
-{
-    let mut next = from;
-    while next < to {
-        next = value(bytes, next, to, levels, names)?;
+impl Reader<'_> {
+    // The value whose record stands at `at` and ends no later than `to`, with `levels` left for it and what is
+    // inside it: where it ends.
+    #[cycle(items_members_value)]
+    fn value(&mut self, at: usize, to: usize, levels: usize) -> Result<usize, Fault>
+        ensures told { ValueTold self.old.bytes.now levels at to self.old.names.links.items self.new.names.links.items result }
+        ensures same { self.new.bytes ≡ self.old.bytes }
+    {
+        let frame = header(self.bytes, at, to).ok_or(Fault::BadText(at))?;
+        let content = match holds(frame.kind, frame.body(self.bytes)) {
+            Ok(content) => content,
+            Err(error) => return Err(error.at(at)),
+        };
+        if levels == 0 {
+            return Err(Fault::TooDeep(at));
+        }
+        match content {
+            Content::Leaf => {}
+            Content::List => self.items(frame.from, frame.end, levels - 1)?,
+            Content::Object => self.members(frame.from, frame.end, levels - 1)?,
+        }
+        Ok(frame.end)
     }
-    Ok(())
-}
 
-// The members of an object from `from` to `to`.
-#[cycle(items_members_value)]
-pub(crate) fn members(
-    bytes: &[u8],
-    from: usize,
-    to: usize,
-    levels: usize,
-    names: &mut Names,
-) -> Result<(), Fault>
-    requires { from ≤ to }
-    ensures { MembersTold bytes.now levels from to names.old.links.items names.new.links.items result }
-{
-    let base = names.len();
-    let mut next = from;
-    while next < to {
-        let onward = member_name(bytes, next, to, base, names)?;
-        next = value(bytes, onward, to, levels, names)?;
+    // The items of a list from `from` to `to`.
+    #[cycle(items_members_value)]
+    fn items(&mut self, from: usize, to: usize, levels: usize) -> Result<(), Fault>
+        requires { from ≤ to }
+        ensures told { ItemsTold self.old.bytes.now levels from to self.old.names.links.items self.new.names.links.items result }
+        ensures same { self.new.bytes ≡ self.old.bytes }
+    {
+        let mut next = from;
+        while next < to {
+            next = self.value(next, to, levels)?;
+        }
+        Ok(())
     }
-    names.close(base);
-    Ok(())
-}
 
-// The name of the member at `at`, which none of the names from `base` on is: where its record ends.
-fn member_name(
-    bytes: &[u8],
-    at: usize,
-    to: usize,
-    base: usize,
-    names: &mut Names,
-) -> Result<usize, Fault>
-    requires sound { Sound bytes.now [] names.old.links.items base }
-    requires below { base ≤ length names.old.links.items }
-    ensures { NameTold bytes.now at to base names.old.links.items names.new.links.items result }
-{
-    let Some(frame) = header(bytes, at, to) else {
-        return Err(Fault::BadText(at));
-    };
-    let Frame { kind, from, end } = frame;
-    if kind != NAME || !name_form(&bytes[from..end]) {
-        return Err(Fault::BadText(at));
+    // The members of an object from `from` to `to`.
+    #[cycle(items_members_value)]
+    pub(crate) fn members(&mut self, from: usize, to: usize, levels: usize) -> Result<(), Fault>
+        requires { from ≤ to }
+        ensures told { MembersTold self.old.bytes.now levels from to self.old.names.links.items self.new.names.links.items result }
+        ensures same { self.new.bytes ≡ self.old.bytes }
+    {
+        let base = self.names.len();
+        let mut next = from;
+        while next < to {
+            let onward = self.member_name(next, to, base)?;
+            next = self.value(onward, to, levels)?;
+        }
+        self.names.close(base);
+        Ok(())
     }
-    let added = names.add(base, bytes, &[], Part::of_text(from, end))?;
-    if !added {
-        return Err(Fault::RepeatedName(at));
+
+    // The name of the member at `at`, which none of the names from `base` on is: where its record ends.
+    fn member_name(&mut self, at: usize, to: usize, base: usize) -> Result<usize, Fault>
+        requires sound { Sound self.old.bytes.now [] self.old.names.links.items base }
+        requires below { base ≤ length self.old.names.links.items }
+        ensures told { NameTold self.old.bytes.now at to base self.old.names.links.items self.new.names.links.items result }
+        ensures same { self.new.bytes ≡ self.old.bytes }
+    {
+        let frame = header(self.bytes, at, to).ok_or(Fault::BadText(at))?;
+        if !frame.is_name() || !name_form(frame.body(self.bytes)) {
+            return Err(Fault::BadText(at));
+        }
+        let holder = Holder {
+            text: self.bytes,
+            pool: &[],
+        };
+        let name = Part::Text {
+            start: frame.from,
+            end: frame.end,
+        };
+        let added = self.names.add(base, holder, name)?;
+        if !added {
+            return Err(Fault::RepeatedName(at));
+        }
+        Ok(frame.end)
     }
-    Ok(end)
 }

@@ -1,21 +1,20 @@
 // A sheet's bytes as a source of raw values in JSON form.
-ghost use Rattle.std.specs.Prelude.{◌≡◌, ℕ, ◌-◌, ◌≤◌, length};
-ghost use Rattle.text.specs.Cuts.{part};
+ghost use Rattle.std.specs.Prelude.{◌≡◌, ℕ, ◌≤◌, length};
+ghost use Rattle.record.specs.Kinds.{number_of};
 ghost use Rattle.model.specs.Values.{Rec, Mems};
 ghost use Rattle.model.specs.Coercion.{member as member_of};
 ghost use Rattle.source.specs.declared.raw.Form.TheVariants.{Json as JsonForm};
 ghost use Rattle.source.specs.Heads.{flag_of, text_of};
 ghost use Rattle.source.specs.Standing.{Found, Scaled};
-ghost use Rattle.stored.specs.Cursors.{Leads, Held, HeldAll, HeldMems, Named, Points, Lies, OfRecord, kind_for_lem};
+ghost use Rattle.stored.specs.Cursors.{Leads, Held, HeldAll, HeldMems, Named, TargetTold, FollowTold, OfRecord, kind_for_lem};
 ghost use Rattle.stored.specs.Past.{past_at};
 ghost use Rattle.stored.specs.Laws.{StoredTold, ReadsOnce, ReadsBack, AcceptsBack};
 ghost use Rattle.stored.specs.OneTree.{lawful};
 
-use crate::header::{
-    BOOLEAN, DECIMAL, Frame, LIST, NAME, NULL, OBJECT, SCALE, STRING, WHOLE, header,
-};
-use crate::reading::members;
+use crate::header::{Frame, header, valued};
+use crate::reading::Reader;
 use names::names::Names;
+use record::kind::{RecordKind, SCALE};
 use source::limits::DEEPEST;
 use source::raw::{Form, Kind, Source, Span};
 use std::alloc::Global;
@@ -28,138 +27,100 @@ pub struct Stored<'a> {
     bytes: &'a [u8],
 }
 
-// Where a cursor leads: a record by its place and kind, and its body.
-#[derive(Clone, Copy, Debug)]
-struct Target {
+// Where a cursor leads: a record by its place and kind, where its body starts, and the body.
+#[derive(Clone, Copy)]
+struct Target<'a> {
     place: usize,
-    kind: u8,
+    kind: RecordKind,
     from: usize,
-    end: usize,
+    body: &'a [u8],
 }
 
-impl Target {
-    // Stands for a record that is not there.
-    const NOTHING: Target = Target {
-        place: 0,
-        kind: NULL,
-        from: 0,
-        end: 0,
-    };
-
-    fn new(place: usize, frame: Frame) -> Target
-        ensures { result ≡ record { place = place; kind = frame.kind; from = frame.from; end = frame.end } }
+impl<'a> Target<'a> {
+    // The record at `place`, if its frame has a kind.
+    fn new(bytes: &'a [u8], place: usize, frame: Frame) -> Option<Target<'a>>
+        requires forward { frame.from ≤ frame.end }
+        requires inside { frame.end ≤ length bytes.now }
+        ensures { TargetTold bytes.now place frame result }
     {
-        Target {
+        let kind = RecordKind::try_from(frame.kind).ok()?;
+        Some(Target {
             place,
-            kind: frame.kind,
+            kind,
             from: frame.from,
-            end: frame.end,
+            body: frame.body(bytes),
+        })
+    }
+
+    fn kind(self) -> Kind
+        ensures { result ≡ kind_for_lem (number_of self.entry.kind) }
+    {
+        match self.kind {
+            RecordKind::Boolean => Kind::Boolean,
+            RecordKind::Whole => Kind::Whole,
+            RecordKind::Decimal => Kind::Decimal,
+            RecordKind::String => Kind::String,
+            RecordKind::List => Kind::List,
+            RecordKind::Object => Kind::Object,
+            RecordKind::Null | RecordKind::Name => Kind::Null,
+        }
+    }
+
+    fn boolean(self) -> bool
+        ensures { OfRecord (λ t. result ≡ flag_of t) (number_of self.entry.kind) self.entry.body.now }
+    {
+        matches!((self.kind, self.body), (RecordKind::Boolean, [1]))
+    }
+
+    fn text(self) -> &'a [u8]
+        ensures { OfRecord (λ t. result.now ≡ text_of t) (number_of self.entry.kind) self.entry.body.now }
+    {
+        match self.kind {
+            RecordKind::Whole | RecordKind::String => self.body,
+            RecordKind::Decimal => self.body.get(SCALE..).unwrap_or(&[]),
+            RecordKind::Null
+            | RecordKind::Boolean
+            | RecordKind::List
+            | RecordKind::Object
+            | RecordKind::Name => &[],
+        }
+    }
+
+    fn scale(self) -> Scale
+        ensures { OfRecord (λ t. Scaled t result) (number_of self.entry.kind) self.entry.body.now }
+    {
+        match (self.kind, self.body) {
+            (RecordKind::Decimal, [sign, a, b, c, d, ..]) => Scale {
+                negative: *sign == 1,
+                exponent: i32::from_le_bytes([*a, *b, *c, *d]),
+            },
+            _ => ZERO,
         }
     }
 }
 
-fn kind_for(kind: u8) -> Kind
-    ensures { result ≡ kind_for_lem kind }
-{
-    match kind {
-        BOOLEAN => Kind::Boolean,
-        WHOLE => Kind::Whole,
-        DECIMAL => Kind::Decimal,
-        STRING => Kind::String,
-        LIST => Kind::List,
-        OBJECT => Kind::Object,
-        _ => Kind::Null,
-    }
-}
-
-fn flag_for(kind: u8, body: &[u8]) -> bool
-    ensures { OfRecord (λ t. result ≡ flag_of t) kind body.now }
-{
-    kind == BOOLEAN && body == b"\x01".as_slice()
-}
-
-fn text_for(kind: u8, body: &[u8]) -> &[u8]
-    ensures { OfRecord (λ t. result.now ≡ text_of t) kind body.now }
-{
-    if kind == WHOLE || kind == STRING {
-        return body;
-    }
-    if kind != DECIMAL || body.len() < SCALE {
-        return &[];
-    }
-    &body[SCALE..]
-}
-
-fn scale_for(kind: u8, body: &[u8]) -> Scale
-    ensures { OfRecord (λ t. Scaled t result) kind body.now }
-{
-    if kind != DECIMAL || body.len() < SCALE {
-        return Scale {
-            negative: false,
-            exponent: 0,
-        };
-    }
-    Scale {
-        negative: body[0] == 1,
-        exponent: i32::from_le_bytes([body[1], body[2], body[3], body[4]]),
-    }
-}
+// The sign and the exponent of what is no decimal.
+const ZERO: Scale = Scale {
+    negative: false,
+    exponent: 0,
+};
 
 impl<'a> Stored<'a> {
     // The record of the value at the cursor.
-    fn follow(&self, at: usize) -> Target
-        ensures lies { Lies self.now.bytes.now result }
-        ensures narrow { result.end - result.from ≤ past_at self.now.bytes.now at - at - 1 }
-        ensures points { (p f : ℕ) (x : Rec) → Leads self.now.bytes.now at p f x → Points self.now.bytes.now p f x result }
+    fn follow(&self, at: usize) -> Option<Target<'_>>
+        ensures { FollowTold self.now.bytes.now at result }
     {
         let bytes = self.bytes;
-        let len = bytes.len();
-        if at == len {
-            return Target {
+        if at == bytes.len() {
+            return Some(Target {
                 place: 0,
-                kind: OBJECT,
+                kind: RecordKind::Object,
                 from: 0,
-                end: len,
-            };
+                body: bytes,
+            });
         }
-        let Some(first) = header(bytes, at, len) else {
-            return Target::NOTHING;
-        };
-        if first.kind != NAME {
-            return Target::new(at, first);
-        }
-        let Some(second) = header(bytes, first.end, len) else {
-            return Target::NOTHING;
-        };
-        Target::new(first.end, second)
-    }
-
-    // The body of a record.
-    fn body(&self, target: Target) -> &[u8]
-        requires { Lies self.now.bytes.now target }
-        ensures { result.now ≡ part self.now.bytes.now target.from target.end }
-    {
-        let Target {
-            place: _,
-            kind: _,
-            from,
-            end,
-        } = target;
-        &self.bytes[from..end]
-    }
-
-    // The first member with the name among the members of the span.
-    fn find(&self, members: Span, name: &[u8]) -> Option<usize>
-        ensures { (ms : Mems) → HeldMems self.now.bytes.now members ms → Found (Held self.now.bytes.now) (member_of ms name.now) result }
-    {
-        let mut span = members;
-        while let Some((at, rest)) = self.next(span) {
-            if self.name(at) == name {
-                return Some(at);
-            }
-            span = rest;
-        }
-        None
+        let (place, frame) = valued(bytes, at, bytes.len())?;
+        Target::new(bytes, place, frame)
     }
 }
 
@@ -191,60 +152,49 @@ impl Source for Stored<'_> {
     }
 
     fn kind(&self, at: usize) -> Kind {
-        kind_for(self.follow(at).kind)
+        self.follow(at).map_or(Kind::Null, Target::kind)
     }
 
     fn place(&self, at: usize) -> usize {
-        self.follow(at).place
+        self.follow(at).map_or(0, |target| target.place)
     }
 
     fn boolean(&self, at: usize) -> bool {
-        let target = self.follow(at);
-        flag_for(target.kind, self.body(target))
+        self.follow(at).is_some_and(Target::boolean)
     }
 
     fn text(&self, at: usize) -> &[u8] {
-        let target = self.follow(at);
-        text_for(target.kind, self.body(target))
+        self.follow(at).map_or(&[], Target::text)
     }
 
     fn scale(&self, at: usize) -> Scale {
-        let target = self.follow(at);
-        scale_for(target.kind, self.body(target))
+        self.follow(at).map_or(ZERO, Target::scale)
     }
 
     fn inside(&self, at: usize) -> Span {
-        let target = self.follow(at);
-        if target.kind != LIST && target.kind != OBJECT {
-            return Span { from: 0, to: 0 };
-        }
-        Span {
-            from: target.from,
-            to: target.end,
+        match self.follow(at) {
+            Some(
+                Target {
+                    place: _,
+                    kind: RecordKind::List | RecordKind::Object,
+                    from,
+                    body,
+                },
+            ) => Span {
+                from,
+                to: from + body.len(),
+            },
+            _ => Span { from: 0, to: 0 },
         }
     }
 
     fn next(&self, span: Span) -> Option<(usize, Span)> {
         let Span { from, to } = span;
-        let Some(first) = header(self.bytes, from, to) else {
-            return None;
-        };
-        if first.kind != NAME {
-            return Some((
-                from,
-                Span {
-                    from: first.end,
-                    to,
-                },
-            ));
-        }
-        let Some(second) = header(self.bytes, first.end, to) else {
-            return None;
-        };
+        let (_, frame) = valued(self.bytes, from, to)?;
         Some((
             from,
             Span {
-                from: second.end,
+                from: frame.end,
                 to,
             },
         ))
@@ -252,16 +202,9 @@ impl Source for Stored<'_> {
 
     fn name(&self, at: usize) -> &[u8] {
         match header(self.bytes, at, self.bytes.len()) {
-            Some(frame) => {
-                let Frame { kind: _, from, end } = frame;
-                &self.bytes[from..end]
-            }
+            Some(frame) => frame.body(self.bytes),
             None => &[],
         }
-    }
-
-    fn member(&self, at: usize, name: &[u8]) -> Option<usize> {
-        self.find(self.inside(at), name)
     }
 }
 
@@ -275,22 +218,21 @@ pub fn read_stored(heap: Global, bytes: &[u8]) -> Result<Stored<'_>, Fault>
     if bytes.len() > LONGEST_SHEET {
         return Err(Fault::BadText(0));
     }
-    let mut names = Names::new(heap);
-    members(bytes, 0, bytes.len(), DEEPEST, &mut names)?;
+    let mut reader = Reader {
+        bytes,
+        names: Names::new(heap),
+    };
+    reader.members(0, bytes.len(), DEEPEST)?;
     Ok(Stored { bytes })
 }
 
 // Reading has one outcome.
-pub fn reads_once() -> u8
+pub fn reads_once()
     ensures { ReadsOnce }
-{
-    0
-}
+{}
 
 // What was encoded within the limits is read back.
-pub fn reads_back() -> u8
+pub fn reads_back()
     ensures read { ReadsBack }
     ensures accepted { AcceptsBack }
-{
-    0
-}
+{}

@@ -1,6 +1,9 @@
 -- The bytes of a text from a place on.
-use Rattle.std.proofs.Common.{◌≡◌, ℕ, ◌+◌, ◌-◌, ◌<◌, ◌≤◌, List, [], ◌∷◌, ◌++◌, length, get_or, drop, sym, ap, ◌∙◌, subst, arith, length-drop}
-use Rattle.std.proofs.lemmas.List.{drop_all, drop_more, take-append-drop, drop-drop, length-take-le}
+use Rattle.std.proofs.Common.{◌≡◌, ◌==◌, Bool, true, false, take, ℕ, zero, suc, ◌+◌, ◌-◌, ◌<◌, ◌≤◌, List, [], ◌∷◌, ◌++◌, length, get_or, drop, sym, ap, ◌∙◌, subst, arith, length-append, length-drop}
+use Rattle.std.proofs.lemmas.List.{drop_all, drop_more, take-append-drop, drop-drop, length-take-le, take_rest}
+use Rattle.std.proofs.lemmas.Bool.Decides.{Decides-eqb}
+use Rattle.std.proofs.lemmas.Slice.Eq.{starts_is}
+use Rattle.std.specs.List.{starts_with}
 use Rattle.text.specs.TokenGrammar.{NotAhead}
 use Rattle.text.specs.Cuts.{part}
 
@@ -35,3 +38,32 @@ same_place text i j h k e = omega (arith, ap length e, length-drop i text, lengt
 pub front : {b : ℕ} {t : List ℕ} (xs ys : List ℕ) → 0 < length xs → xs ++ ys ≡ b ∷ t → (u : List ℕ) × (xs ≡ b ∷ u)
 front [] ys h e = absurd (omega arith)
 front {b} {t} (x ∷ xs) ys h e = let f : x ∷ (xs ++ ys) ≡ b ∷ t = e in let g : x ≡ b = cc in (xs, ap (λ n. n ∷ xs) g)
+
+upward : (P : ℕ → Type 0) (i n : ℕ) → P i → ((k : ℕ) → i ≤ k → k < i + n → P k → P (k + 1)) → P (i + n)
+upward P i zero p step = let e : i ≡ i + 0 = omega arith in subst P e p
+upward P i (suc n) p step =
+    let e : (i + n) + 1 ≡ i + suc n = omega arith in
+    subst P e (step (i + n) (omega arith) (omega arith) (upward P i n p (λ k a b. step k a (omega arith))))
+
+-- what holds at i and is handed on from each place to the next holds at j
+pub along : (P : ℕ → Type 0) (i j : ℕ) → i ≤ j → P i → ((k : ℕ) → i ≤ k → k < j → P k → P (k + 1)) → P j
+along P i j h p step =
+    let e : i + (j - i) ≡ j = omega arith in
+    subst P e (upward P i (j - i) p (λ k a b. step k a (omega arith)))
+
+pub torn : {b : Bool} → b ≡ true → b ≡ false → ⊥
+torn t f = let z : ◌≡◌ {A = ℕ} 0 1 = cc in omega arith
+
+-- what `starts_with` says of the text from a place on
+module _ (text word : List ℕ) (i : ℕ) {r : Bool} (m : r ≡ starts_with ◌==◌ (take (length text - i) (drop i text)) word) where
+  told : (r ≡ true → take (length text - i) (drop i text) ≡ word ++ drop (length word) (take (length text - i) (drop i text))) × ((rest : List ℕ) → take (length text - i) (drop i text) ≡ word ++ rest → r ≡ true)
+  told = starts_is Decides-eqb (take (length text - i) (drop i text)) word r m
+
+  pub begins : r ≡ true → drop i text ≡ word ++ drop (i + length word) text
+  begins t = subst (λ l. l ≡ word ++ drop (length word) l) (take_rest text i) (told.0 t) ∙ ap (λ l. word ++ l) (drop-drop (length word) i text)
+
+  pub begins_not : r ≡ false → (rest : List ℕ) → drop i text ≡ word ++ rest → ⊥
+  begins_not f rest e = torn (told.1 rest (take_rest text i ∙ e)) f
+
+pub begins_fits : (text word : List ℕ) (i : ℕ) → 0 < length word → drop i text ≡ word ++ drop (i + length word) text → i + length word ≤ length text
+begins_fits text word i h e = omega (arith, ap length e, length-append word (drop (i + length word) text), length-drop i text)

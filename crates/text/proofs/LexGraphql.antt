@@ -47,21 +47,6 @@ one_punctuator p_open_brace p_open_brace = refl
 one_punctuator p_pipe p_pipe = refl
 one_punctuator p_close_brace p_close_brace = refl
 
-pub not_punctuator : {b : ℕ} {m : Mark} → Punctuator b m → b ≢ 33 → b ≢ 36 → b ≢ 38 → b ≢ 40 → b ≢ 41 → b ≢ 58 → b ≢ 61 → b ≢ 64 → b ≢ 91 → b ≢ 93 → b ≢ 123 → b ≢ 124 → b ≢ 125 → ⊥
-not_punctuator p_bang h _ _ _ _ _ _ _ _ _ _ _ _ = h refl
-not_punctuator p_dollar _ h _ _ _ _ _ _ _ _ _ _ _ = h refl
-not_punctuator p_ampersand _ _ h _ _ _ _ _ _ _ _ _ _ = h refl
-not_punctuator p_open_paren _ _ _ h _ _ _ _ _ _ _ _ _ = h refl
-not_punctuator p_close_paren _ _ _ _ h _ _ _ _ _ _ _ _ = h refl
-not_punctuator p_colon _ _ _ _ _ h _ _ _ _ _ _ _ = h refl
-not_punctuator p_equals _ _ _ _ _ _ h _ _ _ _ _ _ = h refl
-not_punctuator p_at_sign _ _ _ _ _ _ _ h _ _ _ _ _ = h refl
-not_punctuator p_open_bracket _ _ _ _ _ _ _ _ h _ _ _ _ = h refl
-not_punctuator p_close_bracket _ _ _ _ _ _ _ _ _ h _ _ _ = h refl
-not_punctuator p_open_brace _ _ _ _ _ _ _ _ _ _ h _ _ = h refl
-not_punctuator p_pipe _ _ _ _ _ _ _ _ _ _ _ h _ = h refl
-not_punctuator p_close_brace _ _ _ _ _ _ _ _ _ _ _ _ h = h refl
-
 -- classes of bytes that have none in common
 mark_name : (b : ℕ) → IsPunctuator b → NameStart b → ⊥
 mark_name b p q = grind (arith, p, q)

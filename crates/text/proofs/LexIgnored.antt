@@ -1,9 +1,10 @@
 -- What GraphQL ignores.
-use Rattle.std.proofs.Common.{◌≡◌, ℕ, ◌+◌, ◌<◌, ◌≤◌, ◌≢◌, List, [], ◌∷◌, ◌++◌, length, get_or, drop, Some, None, Option, sym, refl, ap, ◌∙◌, subst, ⊎_elim, arith, length-append}
+use Rattle.std.proofs.Common.{◌≡◌, ℕ, ◌+◌, ◌<◌, ◌≤◌, ◌≢◌, Bool, true, false, List, [], ◌∷◌, ◌++◌, length, get_or, drop, Some, None, Option, sym, refl, ap, ◌∙◌, subst, ⊎_elim, arith, length-append}
 use lib.Utf8.{encode}
+use Rattle.std.specs.Bool.{MatchBool, then_some}
 use Rattle.std.proofs.lemmas.Str.{char_from_byte, length-encode, len_utf8_bounds}
 use Rattle.text.specs.StringGrammar.{Utf8Char, utf8, LineTerminator}
-use Rattle.text.specs.StringDecode.{Exactly, Nothing}
+use Rattle.text.specs.StringDecode.{Exactly}
 use Rattle.text.specs.TokenGrammar.{CommentCode, CommentChar, comment_char_rule, CommentRest, comment_ends, comment_breaks, comment_goes, Comment, number_sign, IgnoredByte, ByteOrderMark, GraphqlIgnored, unicode_bom, ignored_byte_rule, ignored_comment}
 use Rattle.text.specs.TokenFound.{StepAt, StepTold}
 use Rattle.text.proofs.StrUtf8.{utf8_same}
@@ -36,22 +37,14 @@ mark_first {b} {t} {r} (utf8 s e) = let f : b ∷ t ≡ 239 ∷ 187 ∷ 191 ∷ 
 by_char : {xs r s : List ℕ} {c : ℕ} → Utf8Char xs c r → CommentChar xs s → (r ≡ s) × CommentCode c
 by_char {c = c} u (comment_char_rule v d) = let z = utf8_same v u in (sym z.1, subst CommentCode z.0 d)
 
-pub char_step : (text : List ℕ) (i j c : ℕ) → Exactly Utf8Char text i c j → CommentCode c → StepAt CommentChar text i j
-char_step text i j c x d = record {
+pub char_told : (text : List ℕ) (i j c : ℕ) → Exactly Utf8Char text i c j → (stands : Bool) → MatchBool stands (CommentCode c) (CommentCode c → ⊥) → StepTold CommentChar text i (then_some stands j)
+char_told text i j c x true d = record {
   forward = x.forward;
   within = x.within;
   reads = comment_char_rule x.reads d;
   only = λ r q. (by_char x.reads q).0;
 }
-
-none_char : {xs r : List ℕ} → ((c : ℕ) (s : List ℕ) → Utf8Char xs c s → ⊥) → CommentChar xs r → ⊥
-none_char {r = r} n (comment_char_rule {c = c} u d) = n c r u
-
-pub no_char : (text : List ℕ) (i : ℕ) → Nothing Utf8Char text i → (r : List ℕ) → CommentChar (drop i text) r → ⊥
-no_char text i n r q = none_char n q
-
-pub bad_char : (text : List ℕ) (i j c : ℕ) → Exactly Utf8Char text i c j → (CommentCode c → ⊥) → (r : List ℕ) → CommentChar (drop i text) r → ⊥
-bad_char text i j c x n r q = n (by_char x.reads q).1
+char_told text i j c x false n = λ r q. n (by_char x.reads q).1
 
 -- a comment
 by_sign : {t r : List ℕ} → Comment (35 ∷ t) r → CommentRest t r
@@ -131,21 +124,6 @@ module _ {text : List ℕ} {at here : ℕ} (s : CommentSofar text at here) where
         reads = s.onward (drop here text) (subst (λ l. CommentRest l l) (sym o) (comment_breaks b));
         only = λ r c. o ∙ by_break b (subst (λ l. CommentRest l r) o (s.back r c));
       }
-
--- a byte order mark
-by_mark : {xs r s : List ℕ} {c : ℕ} → Utf8Char xs c r → ByteOrderMark xs s → (c ≡ 65279) × (r ≡ s)
-by_mark u v = utf8_same u v
-
-pub mark_step : (text : List ℕ) (i j c : ℕ) → Exactly Utf8Char text i c j → c ≡ 65279 → StepAt ByteOrderMark text i j
-mark_step text i j c x e = record {
-  forward = x.forward;
-  within = x.within;
-  reads = subst (λ n. Utf8Char (drop i text) n (drop j text)) e x.reads;
-  only = λ r q. (by_mark x.reads q).1;
-}
-
-pub other_char : (text : List ℕ) (i j c : ℕ) → Exactly Utf8Char text i c j → c ≢ 65279 → (r : List ℕ) → ByteOrderMark (drop i text) r → ⊥
-other_char text i j c x n r q = n (by_mark x.reads q).0
 
 -- one thing that is ignored, by its first byte
 nil_ignored : {r : List ℕ} → GraphqlIgnored [] r → ⊥

@@ -54,14 +54,6 @@ one_structural end_object end_object = refl
 one_structural name_separator name_separator = refl
 one_structural value_separator value_separator = refl
 
-pub not_structural : {b : ℕ} {m : Mark} → Structural b m → b ≢ 91 → b ≢ 123 → b ≢ 93 → b ≢ 125 → b ≢ 58 → b ≢ 44 → ⊥
-not_structural begin_array h _ _ _ _ _ = h refl
-not_structural begin_object _ h _ _ _ _ = h refl
-not_structural end_array _ _ h _ _ _ = h refl
-not_structural end_object _ _ _ h _ _ = h refl
-not_structural name_separator _ _ _ _ h _ = h refl
-not_structural value_separator _ _ _ _ _ h = h refl
-
 -- literal names
 abbrev IsLetter : ℕ → Type 0
 IsLetter b = (b ≡ 102) ⊎ ((b ≡ 110) ⊎ (b ≡ 116))

@@ -1,15 +1,20 @@
 -- What is found from a place on.
-use Rattle.std.proofs.Common.{◌≡◌, ◌==◌, ℕ, ◌+◌, ◌-◌, ◌<◌, ◌≤◌, Bool, true, false, List, ◌++◌, length, take, drop, IfOk, Ok, Err, Result, sym, ap, ◌∙◌, subst, arith, length-append, length-drop}
-use Rattle.std.proofs.lemmas.Slice.Eq.{starts_is}
-use Rattle.std.proofs.lemmas.List.{drop-drop, take_rest}
-use Rattle.std.specs.List.{starts_with}
+use Rattle.std.proofs.Common.{◌≡◌, ℕ, ◌+◌, ◌-◌, ◌<◌, ◌≤◌, Bool, List, length, Ok, Err, Result, sym, refl, subst, arith}
 use Rattle.text.specs.declared.fault.Fault.{Fault}
 use Rattle.text.specs.declared.fault.Fault.TheVariants.{BadText, TooDeep, NoSpace, RepeatedName, LongNumber, NoMemory}
 use Rattle.text.specs.declared.language.Language.{Language}
 use Rattle.text.specs.declared.token.Lexeme.{Lexeme}
+use Rattle.text.specs.declared.token.Token.TheVariants.{End}
 use Rattle.text.specs.Places.{Placed, is_end}
-use Rattle.text.specs.TokenFound.{Skipped, TokenHere, TokenTold}
-use Rattle.std.proofs.lemmas.Bool.Decides.{Decides-eqb}
+use Rattle.text.specs.declared.number.NumberKind.{NumberKind}
+use Rattle.text.specs.NumberScan.{Found, Unfinished}
+use Rattle.text.specs.StringGrammar.{Reads}
+use Rattle.text.specs.StringDecode.{Scanned, Nothing}
+use Rattle.text.specs.TokenGrammar.{Mark}
+use Rattle.text.specs.TokenFound.{View, v_mark, v_number, v_text, v_end, view_of, Skipped, TokenAt, NoToken, TokenHere, FoundHere, NumeralTold, QuotedTold, TokenTold}
+use Rattle.text.specs.Cuts.{part}
+use Rattle.text.proofs.LexNumber.{scan_refused}
+use Rattle.text.proofs.LexBase.{torn}
 
 pub told : (language : Language) (text : List ℕ) (at start : ℕ) (r : Result Lexeme Fault) → Skipped language text at start → TokenHere language text start r → TokenTold language text at r
 told language text at start (Ok l) s h = (subst (Skipped language text at) (sym h.0) s, h.1)
@@ -20,25 +25,39 @@ told language text at start (Err (NoSpace k)) s h = absurd h
 told language text at start (Err (RepeatedName k)) s h = absurd h
 told language text at start (Err NoMemory) s h = absurd h
 
-pub placed_on : (size at start : ℕ) (r : Result Lexeme Fault) → (at ≤ size → at ≤ start) → start ≤ size → IfOk r (λ l. Placed size start l.start l.end (is_end l.token)) → IfOk r (λ l. Placed size at l.start l.end (is_end l.token))
-placed_on size at start (Ok l) h k p = record { onward = λ a. omega (arith, h a, p.onward k); ordered = p.ordered; within = p.within; some = p.some }
-placed_on size at start (Err f) h k p = tt
-
 pub stands_placed : (size start end : ℕ) (last : Bool) → start < end → end ≤ size → Placed size start start end last
 stands_placed size start end last h k = record { onward = λ a. omega arith; ordered = omega arith; within = k; some = λ e. h }
 
-pub torn : {b : Bool} → b ≡ true → b ≡ false → ⊥
-torn t f = let z : ◌≡◌ {A = ℕ} 0 1 = cc in omega arith
+-- a token that some bytes are, and none
+module _ (language : Language) (text : List ℕ) (i : ℕ) where
+  pub found_here : (l : Lexeme) → l.start ≡ i → TokenAt language text i l.end (view_of l.token) → i < l.end → FoundHere language text i (Ok l)
+  found_here l e t h =
+      let P : ℕ → Type 0 = λ k. TokenAt language text k l.end (view_of l.token) in
+      let Q : ℕ → Type 0 = λ k. Placed (length text) i k l.end (is_end l.token) in
+      record { found = (e, subst P (sym e) t); placed = subst Q (sym e) (stands_placed (length text) i l.end (is_end l.token) h t.within) }
 
--- what `starts_with` says of the text from a place on
-pub begins_with : (text word : List ℕ) (i : ℕ) (r : Bool) → r ≡ starts_with ◌==◌ (take (length text - i) (drop i text)) word
-    → (r ≡ true → drop i text ≡ word ++ drop (i + length word) text) × ((rest : List ℕ) → drop i text ≡ word ++ rest → r ≡ true)
-begins_with text word i r m =
-    let s = starts_is Decides-eqb (take (length text - i) (drop i text)) word r m in
-    let q = take_rest text i in (
-      λ t. subst (λ l. l ≡ word ++ drop (length word) l) q (s.0 t) ∙ ap (λ l. word ++ l) (drop-drop (length word) i text),
-      λ rest e. s.1 rest (q ∙ e),
-    )
+  pub end_here : i ≤ length text → TokenAt language text i i v_end → FoundHere language text i (Ok record { token = End; start = i; end = i })
+  end_here h t = record {
+    found = (refl, t);
+    placed = record { onward = λ h. omega arith; ordered = omega arith; within = h; some = λ e. absurd (torn refl e) };
+  }
 
-pub begins_fits : (text word : List ℕ) (i : ℕ) → 0 < length word → drop i text ≡ word ++ drop (i + length word) text → i + length word ≤ length text
-begins_fits text word i h e = omega (arith, ap length e, length-append word (drop (i + length word) text), length-drop i text)
+  pub none_here : NoToken language text i → FoundHere language text i (Err (BadText i))
+  none_here n = record { found = (refl, n); placed = tt }
+
+  pub numeral_told : ((j : ℕ) (k : NumberKind) (view : View) → Found text i j k → view ≡ v_number k (part text i j) → TokenAt language text i j view) → (Unfinished text i → NoToken language text i)
+      → (r : Result Lexeme Fault) → NumeralTold text i r → FoundHere language text i r
+  numeral_told h n (Ok l) t = let f = t.1.1 in found_here l t.0 (h l.end t.1.0 (view_of l.token) f t.1.2) f.some
+  numeral_told h n (Err f) t = record { found = scan_refused language text i n f t; placed = tt }
+
+  pub quoted_told : ((j : ℕ) (plain : Bool) → Scanned language text (i + 1) j plain → TokenAt language text i j (v_text (part text (i + 1) (j - 1)) plain)) → (Nothing (Reads language) text (i + 1) → NoToken language text i)
+      → (r : Result Lexeme Fault) → QuotedTold language text i r → FoundHere language text i r
+  quoted_told h n (Ok l) t =
+      let s = t.1.1 in
+      let P : View → Type 0 = TokenAt language text i l.end in
+      found_here l t.0 (subst P (sym t.1.2) (h l.end t.1.0 s)) (omega (arith, s.stands.forward))
+  quoted_told h n (Err f) t = subst (λ (g : Fault). FoundHere language text i (Err g)) (sym t.0) (none_here (n t.1))
+
+-- a byte that is a mark
+pub one_mark : (R : ℕ → Mark → Type 0) {b k : ℕ} {m : Mark} → b ≡ k → R k m → (n : Mark) × R b n × (v_mark m ≡ v_mark n)
+one_mark R {m = m} e r = (m, subst (λ (n : ℕ). R n m) (sym e) r, refl)

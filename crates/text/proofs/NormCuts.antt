@@ -1,11 +1,11 @@
 -- Where the runs of digits of a number end.
-use Rattle.std.proofs.Common.{◌≡◌, ℕ, zero, suc, ◌+◌, ◌-◌, ◌<◌, Bool, true, false, ◌≢◌, List, [], ◌∷◌, ◌++◌, length, get_or, take, drop, ℤ, sym, refl, ap, ◌∙◌, subst, ⊎_elim, arith, length-append, length-drop}
+use Rattle.std.proofs.Common.{◌≡◌, ℕ, ◌+◌, ◌-◌, ◌<◌, Bool, true, false, ◌≢◌, List, [], ◌∷◌, ◌++◌, length, get_or, take, drop, ℤ, sym, refl, ap, ◌∙◌, subst, ⊎_elim, arith, length-append, length-drop}
 use Rattle.std.proofs.lemmas.Bool.{cases_lt}
-use Rattle.std.proofs.lemmas.List.{get_or_past, get_or-drop, get_or_append_left, get_or-append-add, take_at, drop_at, drop-drop, get_or-take, length-take-le}
+use Rattle.std.proofs.lemmas.List.{get_or-drop, get_or_append_left, get_or-append-add, take_at, drop_at, drop-drop, get_or-take, length-take-le}
 use Rattle.text.specs.NumberGrammar.{IsDigit, Digits, none, digit, IsInt, zero_int, int, IsMark, small_e, great_e}
 use Rattle.text.specs.NumberWorth.{Power, no_power, plain, more, less, Fraction, no_fraction, fraction, Minus, no_minus, one_minus}
 use Rattle.text.specs.NormalForm.{Each, DigitsTo, Split, Signs}
-use Rattle.text.proofs.NormValues.{each_of, drop_more}
+use Rattle.text.proofs.NormValues.{each_of}
 use Rattle.text.specs.Cuts.{part}
 
 -- the bytes begin with no digit
@@ -86,12 +86,12 @@ pub with_point : {f e ds : List ℕ} {p : ℤ} (ys : List ℕ) → Fraction f ds
 with_point ys no_fraction q h = absurd (power_point q (sym (ap head h)))
 with_point ys (fraction a r) q h = (digit a r, ap tail h)
 
-pub no_point : {f ds : List ℕ} (e xs : List ℕ) → Fraction f ds → (head xs ≢ 46) → xs ≡ f ++ e → (ds ≡ []) × (xs ≡ e)
+pub no_point : {f ds : List ℕ} (e xs : List ℕ) → Fraction f ds → ((r : List ℕ) → xs ≡ 46 ∷ r → ⊥) → xs ≡ f ++ e → (ds ≡ []) × (xs ≡ e)
 no_point e xs no_fraction n h = (refl, h)
-no_point e xs (fraction a r) n h = absurd (n (ap head h))
+no_point e xs (fraction {d} {ds} a r) n h = absurd (n (d ∷ ds ++ e) h)
 
-pub split_point : (text : List ℕ) (start point mark : ℕ) → DigitsTo text start point → point < length text → get_or text point 0 ≡ 46 → DigitsTo text (point + 1) mark → Split text start (record { start = start; point = point; places = point + 1; mark = mark })
-split_point text start point mark d l b r = record {
+pub split_point : (text : List ℕ) (start point mark : ℕ) → DigitsTo text start point → drop point text ≡ 46 ∷ drop (point + 1) text → DigitsTo text (point + 1) mark → Split text start (record { start = start; point = point; places = point + 1; mark = mark })
+split_point text start point mark d b r = record {
   begins = refl;
   first = d.forward;
   second = omega arith;
@@ -101,21 +101,12 @@ split_point text start point mark d l b r = record {
   fracs = run_each r;
   found = λ i f e ds q h w a p.
       let c = cut_parts i (f ++ e) d h (int_digits w) (stops_both a p) in
-      let y = with_point (drop (point + 1) text) a p (sym (drop_more text point l ∙ ap (λ n. n ∷ drop (point + 1) text) b) ∙ c.1) in
+      let y = with_point (drop (point + 1) text) a p (sym b ∙ c.1) in
       let z = cut_parts ds e r y.1 y.0 (stops_power p) in
       (c.0, z.0, z.1);
 }
 
-head_drop : (xs : List ℕ) (n : ℕ) → head (drop n xs) ≡ get_or xs n 0
-head_drop [] zero = refl
-head_drop [] (suc n) = refl
-head_drop (x ∷ xs) zero = refl
-head_drop (x ∷ xs) (suc n) = head_drop xs n
-
-beyond : (xs : List ℕ) (n : ℕ) → (n < length xs → get_or xs n 0 ≢ 46) → get_or xs n 0 ≢ 46
-beyond xs n f e = ⊎_elim (λ h. f h e) (λ h. let z : get_or xs n 0 ≡ 0 = get_or_past xs n 0 h in omega arith) (cases_lt n (length xs))
-
-pub split_none : (text : List ℕ) (start point : ℕ) → DigitsTo text start point → (point < length text → get_or text point 0 ≢ 46) → Split text start (record { start = start; point = point; places = point; mark = point })
+pub split_none : (text : List ℕ) (start point : ℕ) → DigitsTo text start point → ((r : List ℕ) → drop point text ≡ 46 ∷ r → ⊥) → Split text start (record { start = start; point = point; places = point; mark = point })
 split_none text start point d n =
     let nothing : part text point point ≡ [] = let z : point - point ≡ 0 = omega arith in ap (λ k. take k (drop point text)) z in
     record {
@@ -128,7 +119,7 @@ split_none text start point d n =
       fracs = λ k h. absurd (omega (arith, ap length nothing));
       found = λ i f e ds q h w a p.
           let c = cut_parts i (f ++ e) d h (int_digits w) (stops_both a p) in
-          let y = no_point e (drop point text) a (λ b. beyond text point n (sym (head_drop text point) ∙ b)) c.1 in
+          let y = no_point e (drop point text) a n c.1 in
           (c.0, nothing ∙ sym y.0, y.1);
     }
 

@@ -9,9 +9,11 @@ use Rattle.text.specs.declared.decimal.Scale.{Scale}
 use Rattle.text.specs.NumberGrammar.{IsDigit, Digits, none, digit, IsInt, zero_int, int, IsMark, Optional, without, with, IsMinus, minus, IsSign, sign_minus, sign_plus, IsFrac, frac, IsExp, exp, Number, kind_of}
 use Rattle.text.specs.NumberWorth.{after, value, Power, no_power, plain, more, less, Fraction, no_fraction, fraction, Minus, no_minus, one_minus, Writes, Equal, SameWorth, below, NumbersWrite, WritersAreNumbers, WritesOnce, WorthIsEquivalence}
 use Rattle.text.specs.NormalForm.{Each, Form, form_zero, form, Normal, FormsAreUnique, EqualNumbersEqualForms, EqualFormsEqualNumbers, WholesAreUnique, WholeForm, whole_zero, whole_above, whole_below, WholeOf, WholeNormal, Signs, start_of, Trimmed}
-use Rattle.text.proofs.NormValues.{after-append, after-ge, value-zeros, each_of, each_left, by_minus, by_plus, by_other, by_nothing, positive, length-zero, rest_is, part_end}
+use Rattle.std.proofs.lemmas.List.{nil_from_length, take_rest}
+use Rattle.text.proofs.LexBase.{cut, length_part}
+use Rattle.text.proofs.NormValues.{after-append, after-ge, value-zeros, each_of, each_left, by_minus, by_plus, by_other, by_nothing, positive}
 use Rattle.text.proofs.NormCuts.{Stops, stops_power, stops_both, int_digits, head, tail, power_point, unsigned_true, unsigned_false, int_first}
-use Rattle.text.proofs.NormSettle.{below_some, ten_pos, zero_same, length_part}
+use Rattle.text.proofs.NormSettle.{below_some, ten_pos, zero_same}
 use Rattle.text.specs.Cuts.{part}
 
 -- digits, and what follows with no digit first, are told apart
@@ -38,7 +40,7 @@ fraction_cut {x = x} {y = y} (fraction d w) (fraction c z) u v e = digits_cut x 
 
 power_once : {e : List ℕ} {p q : ℤ} → Power e p → Power e q → p ≡ q
 power_once no_power b = by_nothing b
-power_once (plain m d r) b = sym (by_other (λ h. omega arith) (λ h. omega arith) b).0
+power_once (plain m d r) b = sym (by_other (λ r e. omega (arith, ap head e)) (λ r e. omega (arith, ap head e)) b).0
 power_once (more m d r) b = sym (by_plus b).0
 power_once (less m d r) b = sym (by_minus b).0
 
@@ -428,16 +430,16 @@ after_minus text false start g b x =
     (u.0, ap (λ k. drop k text) b ∙ u.1)
 
 digits_and_zeros : (text : List ℕ) (start end : ℕ) → Trimmed text start end → drop start text ≡ part text start end ++ replicate (length text - end) 48
-digits_and_zeros text start end t = rest_is text start end t.forward ∙ ap (λ l. part text start end ++ l) t.zeros
+digits_and_zeros text start end t = cut text start end t.forward ∙ ap (λ l. part text start end ++ l) t.zeros
 
 pub of_whole_zero : (text : List ℕ) (neg : Bool) (start end : ℕ) → Signs text neg → start ≡ start_of neg → Trimmed text start end → end ≡ start → Number text Whole → Normal text (record { negative = false; exponent = pos 0 }) (part text start (length text))
 of_whole_zero text neg start end g b t e y =
     let x = whole_parts y in
     let u = after_minus text neg start g b x in
-    let nothing : part text start end ≡ [] = length-zero (part text start end) (length_part text start end t.forward t.within ∙ omega arith) in
+    let nothing : part text start end ≡ [] = nil_from_length (part text start end) (length_part text start end t.within ∙ omega arith) in
     let zeros : x.i ≡ replicate (length text - end) 48 = sym u.1 ∙ digits_and_zeros text start end t ∙ ap (λ l. l ++ replicate (length text - end) 48) nothing in
     let i-zero = int_zero (length text - end) x.whole zeros in
-    let here : part text start (length text) ≡ 48 ∷ [] = part_end text start ∙ u.1 ∙ i-zero in
+    let here : part text start (length text) ≡ 48 ∷ [] = take_rest text start ∙ u.1 ∙ i-zero in
     subst (Normal text (record { negative = false; exponent = pos 0 })) (sym here)
     (record { formed = form_zero; worth = λ n a s w. zero_same n a s ((whole_tells x n a s w).1 ∙ ap value i-zero) })
 
@@ -448,7 +450,7 @@ of_whole_some text neg start end p g b t h q y =
     let ds = part text start end in
     let z = length text - end in
     let all : x.i ≡ ds ++ replicate z 48 = sym u.1 ∙ digits_and_zeros text start end t in
-    let long = length_part text start end t.forward t.within in
+    let long = length_part text start end t.within in
     let some : 0 < length ds = omega (arith, long) in
     let there : start + (length ds - 1) ≡ end - 1 = omega (arith, long) in
     let at : get_or ds (length ds - 1) 0 ≡ get_or text (end - 1) 0 =

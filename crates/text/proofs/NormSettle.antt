@@ -1,5 +1,5 @@
 -- From the parts of a number to its normal form.
-use Rattle.std.proofs.Common.{◌≡◌, ℕ, zero, suc, ◌-◌, ◌*◌, ◌^◌, ◌<◌, ◌≤◌, Bool, true, false, cond, eqb, ◌≢◌, List, [], ◌∷◌, ◌++◌, length, get_or, take, drop, replicate, ℤ, pos, negsuc, ◌+ℤ◌, ◌-ℤ◌, sym, refl, ap, ◌∙◌, subst, inl, inr, append-nil, mul-pos, zero-mul, mul-one, arith, length-drop}
+use Rattle.std.proofs.Common.{◌≡◌, ℕ, zero, suc, ◌-◌, ◌*◌, ◌^◌, ◌<◌, Bool, true, false, cond, eqb, ◌≢◌, List, [], ◌∷◌, ◌++◌, length, get_or, take, drop, replicate, ℤ, pos, negsuc, ◌+ℤ◌, ◌-ℤ◌, sym, refl, ap, ◌∙◌, subst, inl, inr, append-nil, mul-pos, zero-mul, mul-one, arith, length-drop}
 use native.Mathlib.Nat.{pow-succ'}
 use Rattle.std.proofs.lemmas.List.{length-take-le, take-take, take_all, take-append-drop}
 use Rattle.std.proofs.lemmas.Int.{ints}
@@ -7,7 +7,9 @@ use Rattle.std.proofs.lemmas.Bool.Decides.{nat_tests}
 use Rattle.text.specs.declared.decimal.Parts.{Parts}
 use Rattle.text.specs.NumberWorth.{after, value, Writes, Equal, SameWorth, below}
 use Rattle.text.specs.NormalForm.{Each, Signs, Split, start_of, Held, Grown, Trimmed, form_zero, form, Within, Added}
-use Rattle.text.proofs.NormValues.{after_is, Left, left, positive, held_none, drop_past, trim_all, trim_last, length-zero}
+use Rattle.std.proofs.lemmas.List.{nil_from_length}
+use Rattle.text.proofs.LexBase.{gone}
+use Rattle.text.proofs.NormValues.{after_is, Left, left, positive, held_none, trim_all, trim_last}
 use Rattle.text.proofs.NormCuts.{unsigned_true, unsigned_false, int_first}
 use Rattle.text.specs.Cuts.{part}
 
@@ -67,9 +69,6 @@ amount_positive ds z v x h =
     let m : 0 < value ds * 10 ^ z = mul-pos d (ten_pos z) in
     omega (arith, x.worth)
 
-pub length_part : (text : List ℕ) (i j : ℕ) → i ≤ j → j ≤ length text → length (part text i j) ≡ j - i
-length_part text i j h l = length-take-le (j - i) (drop i text) (omega (arith, length-drop i text))
-
 -- what stands after both parts are added and the zeros at the end are taken away
 pub record Settled (before ts : List ℕ) (base end z v : ℕ) : Type 0 where
   pub size : length (drop base ts) ≡ end - base
@@ -79,7 +78,7 @@ pub record Settled (before ts : List ℕ) (base end z v : ℕ) : Type 0 where
 
 pub settled : (before first second ts t u : List ℕ) (base end zeros : ℕ) → base ≡ length before → Grown base before first t → Grown base first second u → Each t → Each u → Trimmed second base end → ts ≡ take end second → zeros ≡ length second - end → Settled before ts base end zeros (after (after 0 t) u)
 settled before first second ts t u base end zeros b g h et eu r e z =
-    let none : Held (drop base before) 0 = subst (λ x. Held x 0) (sym (drop_past before base (omega arith))) held_none in
+    let none : Held (drop base before) 0 = subst (λ x. Held x 0) (sym (gone before base (omega arith))) held_none in
     let long : length ts ≡ end = ap length e ∙ length-take-le end second r.within in
     let front : take base ts ≡ before =
     ap (take base) e ∙ take-take base end second r.forward ∙ h.kept ∙ g.kept ∙ take_all base before (omega arith) in
@@ -98,12 +97,12 @@ zero_same n a s z = record { signs = ap (below n) z; amounts = zero_worth a s (4
 
 pub unadded : (before ts : List ℕ) (base end z v : ℕ) → Settled before ts base end z v → end ≡ base → ts ≡ before
 unadded before ts base end z v x b =
-    let none : drop base ts ≡ [] = length-zero (drop base ts) (omega (arith, x.size)) in
+    let none : drop base ts ≡ [] = nil_from_length (drop base ts) (omega (arith, x.size)) in
     x.added ∙ ap (λ l. before ++ l) none ∙ append-nil before
 
 pub added_zero : (text before now ts : List ℕ) (base end z v : ℕ) → Settled before ts base end z v → end ≡ base → now ≡ ts ++ 48 ∷ [] → Within text → ((n : Bool) (a : ℕ) (s : ℤ) → Writes text n a s → a ≡ v) → Added text before now (record { negative = false; exponent = pos 0 })
 added_zero text before now ts base end z v x b e w all =
-    let none : drop base ts ≡ [] = length-zero (drop base ts) (omega (arith, x.size)) in
+    let none : drop base ts ≡ [] = nil_from_length (drop base ts) (omega (arith, x.size)) in
     let start = unadded before ts base end z v x b in
     let nothing = zero_amount (drop base ts) z v x.left none in
     record {

@@ -1,11 +1,12 @@
 -- Laws of the value of digits.
-use Rattle.std.proofs.Common.{◌≡◌, ℕ, zero, suc, ◌+◌, ◌-◌, ◌*◌, ◌^◌, ◌<◌, ◌≤◌, Bool, true, false, ◌≢◌, List, [], ◌∷◌, ◌++◌, length, get_or, take, drop, replicate, ℤ, pos, neg_ℤ, nat_abs, sym, refl, ap, ◌∙◌, subst, mul_assoc, add-mul, add-one, arith, length-append, length-drop, drop-cons}
+use Rattle.std.proofs.Common.{◌≡◌, ℕ, zero, suc, ◌+◌, ◌-◌, ◌*◌, ◌^◌, ◌<◌, ◌≤◌, Bool, true, false, ◌≢◌, List, [], ◌∷◌, ◌++◌, length, get_or, take, drop, replicate, ℤ, pos, neg_ℤ, nat_abs, sym, refl, ap, ◌∙◌, subst, mul_assoc, add-mul, arith, length-append, length-drop}
 use native.Mathlib.Nat.{pow-succ'}
-use Rattle.std.proofs.lemmas.List.{take_more, get_or-drop, take-append-drop, drop-drop, drop-append-le, take-append-le, take_all, get_or-take, get_or_append_left, length-take-le}
+use Rattle.std.proofs.lemmas.List.{take_more, get_or-drop, take-append-drop, drop-append-le, take-append-le, get_or-take, get_or_append_left, length-take-le, take-take}
 use Rattle.text.specs.NumberGrammar.{IsDigit, Digits, none, digit}
 use Rattle.text.specs.NumberWorth.{after, value, Power, no_power, plain, more, less}
 use Rattle.text.specs.NormalForm.{Each, Held, Led, Grown, Trimmed, signed}
 use Rattle.text.specs.Cuts.{part}
+use Rattle.text.proofs.LexBase.{there, gone}
 
 pub after-append : (v : ℕ) (xs ys : List ℕ) → after v (xs ++ ys) ≡ after (after v xs) ys
 after-append v [] ys = refl
@@ -36,15 +37,6 @@ after-zeros v (suc r) =
 pub value-zeros : (ds : List ℕ) (r : ℕ) → value (ds ++ replicate r 48) ≡ value ds * 10 ^ r
 value-zeros ds r = after-append 0 ds (replicate r 48) ∙ after-zeros (value ds) r
 
--- the text from i on, by one more byte
-pub drop_more : (text : List ℕ) (i : ℕ) → i < length text → drop i text ≡ get_or text i 0 ∷ drop (i + 1) text
-drop_more text i h = rw add-one (drop-cons text i 0 h)
-
-pub rest_is : (text : List ℕ) (i j : ℕ) → i ≤ j → drop i text ≡ part text i j ++ drop j text
-rest_is text i j h =
-    let there : i + (j - i) ≡ j = omega arith in
-    sym (take-append-drop (j - i) (drop i text)) ∙ ap (λ l. part text i j ++ l) (drop-drop (j - i) i text ∙ ap (λ n. drop n text) there)
-
 pub each_of : {ds : List ℕ} → Digits ds → Each ds
 each_of none k h = absurd (omega arith)
 each_of (digit d r) zero h = d
@@ -68,13 +60,10 @@ pub by_plus : {e : ℕ} {xs : List ℕ} {p : ℤ} → Power (e ∷ 43 ∷ xs) p 
 by_plus (plain m d r) = absurd (omega arith)
 by_plus (more m d r) = (refl, each_of (digit d r))
 
-pub by_other : {e b : ℕ} {xs : List ℕ} {p : ℤ} → b ≢ 45 → b ≢ 43 → Power (e ∷ b ∷ xs) p → (p ≡ pos (value (b ∷ xs))) × Each (b ∷ xs)
+pub by_other : {e : ℕ} {xs : List ℕ} {p : ℤ} → ((r : List ℕ) → xs ≡ 45 ∷ r → ⊥) → ((r : List ℕ) → xs ≡ 43 ∷ r → ⊥) → Power (e ∷ xs) p → (p ≡ pos (value xs)) × Each xs
 by_other h k (plain m d r) = (refl, each_of (digit d r))
-by_other h k (more m d r) = absurd (k refl)
-by_other h k (less m d r) = absurd (h refl)
-
-pub by_none : {e : ℕ} {p : ℤ} → Power (e ∷ []) p → ⊥
-by_none q = elim q [ ]
+by_other h k (more {d = d} {ds} m x r) = absurd (k (d ∷ ds) refl)
+by_other h k (less {d = d} {ds} m x r) = absurd (h (d ∷ ds) refl)
 
 each_snoc : (ds : List ℕ) (d : ℕ) → Each ds → IsDigit d → Each (ds ++ d ∷ [])
 each_snoc [] d e i k h = let z : k ≡ 0 = omega arith in subst (λ n. IsDigit (get_or (d ∷ []) n 0)) (sym z) i
@@ -96,28 +85,15 @@ held_zero {ds} {v} h e =
     let n : v ≡ v * 10 + (48 - 48) = omega arith in
     record { each = h.each; led = h.led; worth = h.worth ∙ n }
 
-pub length-zero : (xs : List ℕ) → length xs ≡ 0 → xs ≡ []
-length-zero [] h = refl
-length-zero (x ∷ xs) h = absurd (omega arith)
-
-pub drop_past : (text : List ℕ) (at : ℕ) → length text ≤ at → drop at text ≡ []
-drop_past text at h = length-zero (drop at text) (omega (arith, length-drop at text))
-
 -- the sign and the digits of an exponent
-pub led_end : (text : List ℕ) (at : ℕ) → length text ≤ at → at ≤ length text → Led text at false at
-led_end text at h l = record { within = l; power = λ e p q. absurd (by_none (subst (λ x. Power (e ∷ x) p) (drop_past text at h) q)) }
+pub led_minus : (text : List ℕ) (at : ℕ) → at < length text → drop at text ≡ 45 ∷ drop (at + 1) text → Led text at true (at + 1)
+led_minus text at h b = record { within = omega arith; power = λ e p q. by_minus (subst (λ x. Power (e ∷ x) p) b q) }
 
-pub led_minus : (text : List ℕ) (at : ℕ) → at < length text → get_or text at 0 ≡ 45 → Led text at true (at + 1)
-led_minus text at h b = record { within = omega arith; power = λ e p q. by_minus (subst (λ x. Power (e ∷ x) p) (drop_more text at h ∙ ap (λ n. n ∷ drop (at + 1) text) b) q) }
+pub led_plus : (text : List ℕ) (at : ℕ) → at < length text → drop at text ≡ 43 ∷ drop (at + 1) text → Led text at false (at + 1)
+led_plus text at h b = record { within = omega arith; power = λ e p q. by_plus (subst (λ x. Power (e ∷ x) p) b q) }
 
-pub led_plus : (text : List ℕ) (at : ℕ) → at < length text → get_or text at 0 ≡ 43 → Led text at false (at + 1)
-led_plus text at h b = record { within = omega arith; power = λ e p q. by_plus (subst (λ x. Power (e ∷ x) p) (drop_more text at h ∙ ap (λ n. n ∷ drop (at + 1) text) b) q) }
-
-pub led_other : (text : List ℕ) (at : ℕ) → at < length text → get_or text at 0 ≢ 45 → get_or text at 0 ≢ 43 → Led text at false at
-led_other text at h a b = record {
-  within = omega arith;
-  power = λ e p q. subst (λ x. (p ≡ pos (value x)) × Each x) (sym (drop_more text at h)) (by_other a b (subst (λ x. Power (e ∷ x) p) (drop_more text at h) q));
-}
+pub led_other : (text : List ℕ) (at : ℕ) → at ≤ length text → ((r : List ℕ) → drop at text ≡ 45 ∷ r → ⊥) → ((r : List ℕ) → drop at text ≡ 43 ∷ r → ⊥) → Led text at false at
+led_other text at h a b = record { within = h; power = λ e p q. by_other a b q }
 
 pub by_nothing : {p : ℤ} → Power [] p → pos 0 ≡ p
 by_nothing no_power = refl
@@ -126,7 +102,7 @@ by_nothing no_power = refl
 pub zeros_more : (xs : List ℕ) (n : ℕ) → n < length xs → get_or xs n 0 ≡ 48 → drop (n + 1) xs ≡ replicate (length xs - (n + 1)) 48 → drop n xs ≡ replicate (length xs - n) 48
 zeros_more xs n h b e =
     let one : suc (length xs - (n + 1)) ≡ length xs - n = omega arith in
-    drop_more xs n h ∙ ap (λ d. d ∷ drop (n + 1) xs) b ∙ ap (λ l. 48 ∷ l) e ∙ ap (λ k. replicate k 48) one
+    there xs n h ∙ ap (λ d. d ∷ drop (n + 1) xs) b ∙ ap (λ l. 48 ∷ l) e ∙ ap (λ k. replicate k 48) one
 
 -- the turns of `add`
 pub record Filled (base : ℕ) (before ds text : List ℕ) (i : ℕ) : Type 0 where
@@ -134,9 +110,6 @@ pub record Filled (base : ℕ) (before ds text : List ℕ) (i : ℕ) : Type 0 wh
   pub more : length before ≤ length ds
   pub most : length ds ≤ length before + i
   pub held : (v : ℕ) → Held (drop base before) v → Each text → Held (drop base ds) (after v (take i text))
-
-pub filled_none : (base : ℕ) (before text : List ℕ) → Filled base before before text 0
-filled_none base before text = record { kept = refl; more = omega arith; most = omega arith; held = λ v h a. h }
 
 pub pushed : (base : ℕ) (before ds ds' text : List ℕ) (i : ℕ) → base ≤ length before → Filled base before ds text i → i < length text → ds' ≡ ds ++ get_or text i 0 ∷ [] → (drop base ds ≡ [] → get_or text i 0 ≢ 48) → Filled base before ds' text (i + 1)
 pushed base before ds ds' text i b f l e n =
@@ -174,7 +147,7 @@ filled_all base before ds text i f l e = record {
 }
 
 pub nothing_past : (base : ℕ) (ds : List ℕ) → length ds ≤ base → drop base ds ≡ []
-nothing_past base ds h = drop_past ds base h
+nothing_past base ds h = gone ds base h
 
 pub something_past : (base : ℕ) (ds : List ℕ) → base < length ds → drop base ds ≡ [] → ⊥
 something_past base ds h e = omega (arith, length-drop base ds, ap length e)
@@ -225,15 +198,29 @@ trim_last xs ys base end t e h b =
     get_or-drop base ys (length (drop base ys) - 1) 0 ∙ ap (λ k. get_or ys k 0) there ∙ ap (λ l. get_or l (end - 1) 0) e ∙ get_or-take end xs (end - 1) 0 (omega arith) in
     t.last h (sym here ∙ b)
 
-pub zeros_none : (xs : List ℕ) (n : ℕ) → n ≡ length xs → drop n xs ≡ replicate (length xs - n) 48
-zeros_none xs n e =
-    let z : 0 ≡ length xs - n = omega arith in
-    drop_past xs n (omega arith) ∙ ap (λ k. replicate k 48) z
-
 pub zeros_less : (xs : List ℕ) (n : ℕ) → 0 < n → n ≤ length xs → get_or xs (n - 1) 0 ≡ 48 → drop n xs ≡ replicate (length xs - n) 48 → drop (n - 1) xs ≡ replicate (length xs - (n - 1)) 48
 zeros_less xs n h l b z =
     let one : n ≡ (n - 1) + 1 = omega arith in
     zeros_more xs (n - 1) (omega arith) b (subst (λ k. drop k xs ≡ replicate (length xs - k) 48) one z)
 
-pub part_end : (text : List ℕ) (i : ℕ) → part text i (length text) ≡ drop i text
-part_end text i = take_all (length text - i) (drop i text) (omega (arith, length-drop i text))
+-- rest is what the text has from there on, but for zeros at its end
+pub record Trimming (xs : List ℕ) (from : ℕ) (rest : List ℕ) : Type 0 where
+  pub within : from + length rest ≤ length xs
+  pub is : rest ≡ part xs from (from + length rest)
+  pub zeros : drop (from + length rest) xs ≡ replicate (length xs - (from + length rest)) 48
+
+pub trim_more : (xs : List ℕ) (from : ℕ) (rest : List ℕ) → Trimming xs from rest → 1 ≤ length rest → get_or rest (length rest - 1) 0 ≡ 48 → Trimming xs from (take (length rest - 1) rest)
+trim_more xs from rest t h b =
+    let n = length rest in
+    let m : length (take (n - 1) rest) ≡ n - 1 = length-take-le (n - 1) rest (omega arith) in
+    let p : from + n - from ≡ n = omega arith in
+    let q : from + length (take (n - 1) rest) - from ≡ n - 1 = omega (arith, m) in
+    let e : from + n - 1 ≡ from + (n - 1) = omega arith in
+    let front : rest ≡ take n (drop from xs) = t.is ∙ ap (λ k. take k (drop from xs)) p in
+    let last : get_or xs (from + n - 1) 0 ≡ 48
+    = ap (λ k. get_or xs k 0) e ∙ sym (get_or-drop from xs (n - 1) 0) ∙ sym (get_or-take n (drop from xs) (n - 1) 0 (omega arith)) ∙ sym (ap (λ l. get_or l (n - 1) 0) front) ∙ b in
+    record {
+      within = omega (arith, t.within, m);
+      is = ap (take (n - 1)) front ∙ take-take (n - 1) n (drop from xs) (omega arith) ∙ sym (ap (λ k. take k (drop from xs)) q);
+      zeros = subst (λ (k : ℕ). drop k xs ≡ replicate (length xs - k) 48) (let e : from + n - 1 ≡ from + length (take (n - 1) rest) = omega arith in e) (zeros_less xs (from + n) (omega arith) t.within last t.zeros);
+    }

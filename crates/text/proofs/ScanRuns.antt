@@ -1,16 +1,19 @@
 -- The run of the scanner over bytes, against the grammar.
-use Rattle.std.proofs.Common.{◌≡◌, ℕ, ◌+◌, ◌-◌, ◌*◌, ◌<◌, ◌≤◌, ◌⊎◌, List, [], ◌∷◌, ◌++◌, length, get_or, take, drop, Some, None, Option, sym, refl, ap, ◌∙◌, subst, inl, inr, ⊎_elim, append_assoc, append-nil, arith, length-drop}
+use Rattle.std.proofs.Common.{◌≡◌, ℕ, ◌+◌, ◌-◌, ◌*◌, ◌<◌, ◌≤◌, ◌⊎◌, List, [], ◌∷◌, ◌++◌, length, get_or, take, drop, Some, None, Ok, Err, Option, Result, sym, refl, ap, ◌∙◌, subst, inl, inr, ⊎_elim, append_assoc, append-nil, arith, length-drop}
 use Rattle.std.proofs.lemmas.List.{take_more, get_or-drop}
 use Rattle.std.proofs.lemmas.Bool.Decides.{nat_tests}
 use Rattle.std.proofs.lemmas.Bool.{cases_lt}
+use Rattle.text.specs.declared.fault.Fault.{Fault}
+use Rattle.text.specs.declared.fault.Fault.TheVariants.{BadText, TooDeep, NoSpace, RepeatedName, LongNumber, NoMemory}
+use Rattle.text.specs.declared.number.Scanner.{Scanner}
 use Rattle.text.specs.declared.number.NumberKind.{NumberKind}
 use Rattle.text.specs.declared.number.NumberKind.TheVariants.{Whole, Decimal}
 use Rattle.text.specs.declared.number.State.{State}
 use Rattle.text.specs.declared.number.State.TheVariants.{Start, Minus, Zero, Int, Point, Frac, Exp, ExpSign, ExpDigits}
-use Rattle.text.specs.NumberMoves.{next, marked, capped, weigh, kind_in}
+use Rattle.text.specs.NumberMoves.{next, marked, capped, weigh, kind_in, Finished}
 use Rattle.text.specs.NumberGrammar.{IsDigit, Optional, without, with, Digits, none, digit, IsMinus, minus, IsSign, sign_minus, sign_plus, IsMark, small_e, great_e, IsInt, zero_int, int, IsFrac, frac, IsExp, exp, kind_of, Number}
 use Rattle.text.specs.NumberWorth.{after as read_on}
-use Rattle.text.specs.NumberScan.{size_in, exponent_of, Begins, Longest, Found, Unfinished, Endless, FarScaled}
+use Rattle.text.specs.NumberScan.{size_in, exponent_of, Begins, Longest, Found, Unfinished, Endless, FarScaled, Scanned}
 use Rattle.text.specs.Cuts.{part}
 
 -- a state, with what the exponent's digits write, up to a million, after one more byte
@@ -436,3 +439,12 @@ module _ {text : List ℕ} {at end : ℕ} {s : State} {v : ℕ} (q : Rested text
         let same = same_place (sym c.1 ∙ q.reached.ran) in
         no_kind k (sym o ∙ ends_in s k (subst (λ q. Ends q k) same.0 c.2));
   }
+
+pub settled : {text : List ℕ} {at end : ℕ} (c : Scanner) → Rested text at end c.state c.exponent → (r : Result (ℕ × NumberKind) Fault) → Finished c at end r → Scanned text at r
+settled {text} {at} c q (Ok r) f = subst (λ n. Found text at n r.1) (sym f.0) (found q f.1 f.2)
+settled c q (Err (BadText k)) f = (f.0, unfinished q f.1)
+settled c q (Err (LongNumber k)) f = (f.0, inr (far_scaled q f.1.1 f.2))
+settled c q (Err (TooDeep k)) f = absurd f
+settled c q (Err (NoSpace k)) f = absurd f
+settled c q (Err (RepeatedName k)) f = absurd f
+settled c q (Err NoMemory) f = absurd f

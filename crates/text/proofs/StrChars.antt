@@ -1,6 +1,7 @@
 -- Escapes, and the characters of a string.
-use Rattle.std.proofs.Common.{◌≡◌, ℕ, ◌+◌, ◌<◌, ◌≤◌, ◌≢◌, List, ◌∷◌, ◌++◌, length, get_or, drop, Some, None, Option, sym, refl, ap, ◌∙◌, subst, ⊎_elim, arith, length-drop}
+use Rattle.std.proofs.Common.{◌≡◌, ℕ, ◌+◌, ◌<◌, ◌≤◌, ◌≢◌, Bool, true, false, List, ◌∷◌, ◌++◌, length, get_or, drop, Some, None, Option, sym, refl, ap, ◌∙◌, subst, ⊎_elim, arith, length-drop}
 use lib.Utf8.{encode, low_scalar}
+use Rattle.std.specs.Bool.{MatchBool, then_some}
 use Rattle.std.proofs.lemmas.Str.{encode_ascii}
 use Rattle.text.specs.declared.language.Language.{Language}
 use Rattle.text.specs.declared.language.Language.TheVariants.{Json, Graphql}
@@ -124,8 +125,6 @@ module _ (language : Language) (text : List ℕ) (at : ℕ) where
         let c : Char language (drop at text) p.0 (drop p.1 text) = subst (λ l. Char language l p.0 (drop p.1 text)) (sym (spelled e x.reads)) (escape w.reads) in
         record { forward = omega (arith, x.forward, w.forward); within = w.within; reads = c; only = λ y r z. char_same c z }
 
-    pub char_raw : Unescaped language b → Exactly (Char language) text at b end
-    char_raw o = record { forward = x.forward; within = x.within; reads = unescaped x.reads o; only = λ y r z. char_same (unescaped x.reads o) z }
-
-    pub char_bad : b ≢ 92 → (Unescaped language b → ⊥) → Nothing (Char language) text at
-    char_bad n o y r c = o (by_raw x.reads n c)
+    pub char_settled : b ≢ 92 → (raw : Bool) → MatchBool raw (Unescaped language b) (Unescaped language b → ⊥) → Told (Char language) text at (then_some raw (b, end))
+    char_settled n true o = record { forward = x.forward; within = x.within; reads = unescaped x.reads o; only = λ y r z. char_same (unescaped x.reads o) z }
+    char_settled n false o = λ y r c. o (by_raw x.reads n c)

@@ -21,9 +21,6 @@ digits : {xs r : List ℕ} {c : ℕ} → Code xs c r → (u : ℕ) × (ys : List
 digits (lone {r = r} {u} h o) = (u, r, h)
 digits (pair {ys = ys} {u = u} h i l) = (u, ys, h)
 
-pub code_none : (text : List ℕ) (at : ℕ) → Nothing Hex4 text at → Nothing Code text at
-code_none text at n y r c = let d = digits c in n d.0 d.1 d.2
-
 same : {u c d : ℕ} {ys r t : List ℕ} → Seen u ys c r → Seen u ys d t → (c ≡ d) × (r ≡ t)
 same (seen_lone o e f) (seen_lone p g h) = (sym e ∙ g, sym f ∙ h)
 same (seen_lone o e f) (seen_pair i l g) = absurd (⊎_elim (λ k. omega arith) (λ k. omega arith) o)

@@ -1,15 +1,13 @@
 -- Strings: characters in a row.
-use Rattle.std.proofs.Common.{◌≡◌, ℕ, ◌+◌, ◌-◌, ◌*◌, ◌<◌, ◌≤◌, Bool, true, false, not, ◌&&◌, eqb, ◌≢◌, ◌⊎◌, List, [], ◌∷◌, ◌++◌, length, get_or, take, drop, Err, sym, refl, ap, ◌∙◌, subst, ⊎_elim, append_assoc, append-nil, arith, length-append, length-drop, get_or-drop}
+use Rattle.std.proofs.Common.{◌≡◌, ℕ, ◌+◌, ◌-◌, ◌*◌, ◌<◌, ◌≤◌, Bool, true, false, not, ◌&&◌, eqb, ◌≢◌, ◌⊎◌, List, [], ◌∷◌, ◌++◌, length, get_or, take, drop, sym, refl, ap, ◌∙◌, subst, ⊎_elim, append_assoc, append-nil, arith, length-append, length-drop, get_or-drop}
 use lib.Seq.{take-append_seam}
 use lib.Utf8.{encode, encodes}
 use Rattle.std.proofs.lemmas.List.{drop_all}
 use Rattle.std.proofs.lemmas.Str.{encodes-append, inside_one}
 use Rattle.std.proofs.lemmas.Bool.Decides.{nat_tests}
 use Rattle.text.specs.declared.language.Language.{Language}
-use Rattle.text.specs.declared.fault.Fault.{Fault}
-use Rattle.text.specs.declared.fault.Fault.TheVariants.{BadText, TooDeep, NoSpace, RepeatedName, LongNumber, NoMemory}
 use Rattle.text.specs.StringGrammar.{utf8, Hex4, hex4, Low, low, Code, lone, pair, Escape, short, unicode, Unescaped, Char, unescaped, escape, Run, none, more, Reads}
-use Rattle.text.specs.StringDecode.{Exactly, Nothing, Scanned, Decoded, Broken, Extended, AddTold, DecodeTold}
+use Rattle.text.specs.StringDecode.{Exactly, Nothing, Scanned, Decoded, Broken, Extended}
 use Rattle.text.proofs.StrUtf8.{drop_more, by_lead}
 use Rattle.text.proofs.StrChars.{char_same, no_quote, no_backslash}
 
@@ -152,14 +150,6 @@ module _ {language : Language} {raw : List ℕ} {at : ℕ} {before now : List �
 
   pub so_far : Extended before now
   so_far = record { more = encodes s.chars; is = s.held }
-
-pub undone : (language : Language) (raw before middle after : List ℕ) (f : Fault) → AddTold language raw before middle (Err f) → after ≡ take (length before) middle → DecodeTold language raw before after (Err f)
-undone language raw before middle after (BadText k) p e = (p.0, e ∙ cut middle before p.1.more (length before) p.1.is refl)
-undone language raw before middle after NoMemory p e = e ∙ cut middle before p.more (length before) p.is refl
-undone language raw before middle after (TooDeep k) p e = p
-undone language raw before middle after (NoSpace k) p e = p
-undone language raw before middle after (RepeatedName k) p e = p
-undone language raw before middle after (LongNumber k) p e = p
 
 -- ---- scanning: the characters before `next` were read
 pub record Scanning (language : Language) (text : List ℕ) (at next : ℕ) (plain : Bool) : Type 0 where

@@ -1,5 +1,7 @@
 -- What one byte does to the scanner of a number.
-use Rattle.std.specs.Prelude.{◌≡◌, ℕ, ◌+◌, ◌-◌, ◌*◌, min, Bool, true, false, cond, ◌&&◌, ◌||◌, Some, None, Option, ◌==◌, nat_le}
+use Rattle.std.specs.Prelude.{◌≡◌, ℕ, ◌+◌, ◌-◌, ◌*◌, ◌<◌, ◌≤◌, min, Bool, cond, ◌&&◌, ◌||◌, Some, None, Ok, Err, Option, Result, ◌==◌, nat_le}
+use Rattle.text.specs.declared.fault.Fault.{Fault}
+use Rattle.text.specs.declared.fault.Fault.TheVariants.{BadText, TooDeep, NoSpace, RepeatedName, LongNumber, NoMemory}
 use Rattle.text.specs.declared.number.NumberKind.{NumberKind}
 use Rattle.text.specs.declared.number.NumberKind.TheVariants.{Whole, Decimal}
 use Rattle.text.specs.declared.number.Scanner.{Scanner}
@@ -55,10 +57,10 @@ weigh Exp v b = v
 weigh ExpSign v b = v
 weigh ExpDigits v b = capped (v * 10 + (b - 48))
 
--- one step from s to t: the byte is taken, or nothing changes
-abbrev pub Stepped : Scanner → ℕ → Bool → Scanner → Type 0
-Stepped s b true t = (next s.state b ≡ Some t.state) × (t.exponent ≡ weigh t.state s.exponent b)
-Stepped s b false t = (next s.state b ≡ None) × (t ≡ s)
+-- one step from s: to t with one more byte, or the byte is not taken
+abbrev pub Stepped : Scanner → ℕ → Option Scanner → Type 0
+Stepped s b (Some t) = (next s.state b ≡ Some t.state) × (t.exponent ≡ weigh t.state s.exponent b)
+Stepped s b None = next s.state b ≡ None
 
 -- the kind of the number that ends in a state
 abbrev pub kind_in : State → Option NumberKind
@@ -71,3 +73,13 @@ kind_in Frac = Some Decimal
 kind_in Exp = None
 kind_in ExpSign = None
 kind_in ExpDigits = Some Decimal
+
+-- what the bytes from `at` to `end` come to that led to s: a number, or none, or one with a long exponent
+abbrev pub Finished : Scanner → (at end : ℕ) → Result (ℕ × NumberKind) Fault → Type 0
+Finished s at end (Ok r) = (r.0 ≡ end) × (kind_in s.state ≡ Some r.1) × (s.exponent < 1000000)
+Finished s at end (Err (BadText k)) = (k ≡ at) × (kind_in s.state ≡ None)
+Finished s at end (Err (LongNumber k)) = (k ≡ at) × ((kind : NumberKind) × (kind_in s.state ≡ Some kind)) × (1000000 ≤ s.exponent)
+Finished s at end (Err (TooDeep k)) = ⊥
+Finished s at end (Err (NoSpace k)) = ⊥
+Finished s at end (Err (RepeatedName k)) = ⊥
+Finished s at end (Err NoMemory) = ⊥

@@ -1,5 +1,5 @@
 -- What the functions on tokens promise.
-use Rattle.std.specs.Prelude.{◌≡◌, ℕ, ◌+◌, ◌-◌, ◌<◌, ◌≤◌, Bool, ◌⊎◌, List, length, drop, Some, None, Ok, Err, Option, Result}
+use Rattle.std.specs.Prelude.{◌≡◌, ℕ, ◌+◌, ◌-◌, ◌<◌, ◌≤◌, Bool, ◌⊎◌, List, length, drop, Some, None, Ok, Err, Option, Result, IfOk}
 use Rattle.text.specs.declared.fault.Fault.{Fault}
 use Rattle.text.specs.declared.fault.Fault.TheVariants.{BadText, TooDeep, NoSpace, RepeatedName, LongNumber, NoMemory}
 use Rattle.text.specs.declared.language.Language.{Language}
@@ -8,8 +8,10 @@ use Rattle.text.specs.declared.number.NumberKind.TheVariants.{Whole as WholeKind
 use Rattle.text.specs.declared.token.Lexeme.{Lexeme}
 use Rattle.text.specs.declared.token.Token.{Token}
 use Rattle.text.specs.declared.token.Token.TheVariants.{Bang, Dollar, Ampersand, OpenParen, CloseParen, Spread, Colon, Equals, At, OpenBracket, CloseBracket, OpenBrace, Pipe, CloseBrace, Comma, Name, Whole, Decimal, Text, End}
-use Rattle.text.specs.NumberScan.{Endless, FarScaled}
-use Rattle.text.specs.StringDecode.{Scanned}
+use Rattle.text.specs.NumberScan.{Found, Endless, FarScaled, ScanRefused}
+use Rattle.text.specs.StringGrammar.{Reads}
+use Rattle.text.specs.StringDecode.{Scanned, Nothing}
+use Rattle.text.specs.Places.{Placed, is_end}
 use Rattle.text.specs.TokenGrammar.{Mark, bang, dollar, ampersand, open_paren, close_paren, spread, colon, equals, at_sign, open_bracket, close_bracket, open_brace, pipe, close_brace, comma, Lexical, a_mark, a_name, a_number, a_string, the_end, NotAhead, Skips, NameContinue, NameRest, Ignored, TokenOf}
 use Rattle.text.specs.Cuts.{part}
 
@@ -98,6 +100,21 @@ RefusedHere language text start NoMemory = ⊥
 abbrev pub TokenHere : Language → List ℕ → ℕ → Result Lexeme Fault → Type 0
 TokenHere language text start (Ok l) = (l.start ≡ start) × TokenAt language text l.start l.end (view_of l.token)
 TokenHere language text start (Err f) = RefusedHere language text start f
+
+-- the same, and its places
+pub record FoundHere (language : Language) (text : List ℕ) (start : ℕ) (r : Result Lexeme Fault) : Type 0 where
+  pub found : TokenHere language text start r
+  pub placed : IfOk r (λ l. Placed (length text) start l.start l.end (is_end l.token))
+
+-- the number that stands at start, whatever follows it, or why none does
+abbrev pub NumeralTold : List ℕ → ℕ → Result Lexeme Fault → Type 0
+NumeralTold text start (Ok l) = (l.start ≡ start) × ((kind : NumberKind) × Found text start l.end kind × (view_of l.token ≡ v_number kind (part text start l.end)))
+NumeralTold text start (Err f) = ScanRefused text start f
+
+-- the string after the quotation mark at start, or that none stands there
+abbrev pub QuotedTold : Language → List ℕ → ℕ → Result Lexeme Fault → Type 0
+QuotedTold language text start (Ok l) = (l.start ≡ start) × ((plain : Bool) × Scanned language text (start + 1) l.end plain × (view_of l.token ≡ v_text (part text (start + 1) (l.end - 1)) plain))
+QuotedTold language text start (Err f) = (f ≡ BadText start) × Nothing (Reads language) text (start + 1)
 
 -- why no token is found from `at` on
 abbrev pub TokenRefused : Language → List ℕ → ℕ → Fault → Type 0

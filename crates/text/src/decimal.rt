@@ -1,17 +1,13 @@
 // Normal forms of numbers.
-ghost use Rattle.std.specs.Prelude.{◌≡◌, ℕ, ◌+◌, ◌<◌, ◌≤◌, length, drop, ℤ, pos, ◌+ℤ◌, ◌-ℤ◌, vec_len, vec_capacity, unsigned_abs};
+ghost use Rattle.std.specs.Prelude.{◌≡◌, ◌+◌, ◌<◌, ◌≤◌, length, drop, ℤ, pos, ◌+ℤ◌, ◌-ℤ◌, vec_capacity, unsigned_abs};
 ghost use Rattle.text.specs.declared.number.NumberKind.TheVariants.{Whole};
 ghost use Rattle.text.specs.NumberGrammar.{Number};
 ghost use Rattle.text.specs.NumberWorth.{NumbersWrite, WritersAreNumbers, WritesOnce, WorthIsEquivalence};
 ghost use Rattle.text.specs.NormalForm.{DigitsTo, Sized, Led, Powered, Grown, Trimmed, Signs, Split, start_of, Told, WholeOf, WholeNormal, OfWhole, FormsAreUnique, EqualNumbersEqualForms, EqualFormsEqualNumbers, WholesAreUnique};
 
 use crate::fault::Fault;
-
-// The most bytes of a number, its sign included.
-const LONGEST_NUMBER: usize = 1000;
-
-// The greatest written exponent, without its sign.
-const GREATEST_EXPONENT: u32 = 999_999;
+use crate::limits::{LONG_EXPONENT, LONGEST_NUMBER};
+use crate::run::run_end;
 
 // Sign and exponent of a decimal in normal form; its digits stand elsewhere.
 #[derive(Clone, Copy, Debug, PartialEq)]
@@ -40,11 +36,7 @@ fn run(text: &[u8], at: usize) -> usize
     requires { at ≤ length text.now }
     ensures { DigitsTo text.now at result }
 {
-    let mut to = at;
-    while to < text.len() && b'0' <= text[to] && text[to] <= b'9' {
-        to += 1;
-    }
-    to
+    run_end(text, at, |byte| byte.is_ascii_digit())
 }
 
 // The number that the digits write, if it has at most six after leading zeros.
@@ -53,11 +45,8 @@ fn size(digits: &[u8]) -> Option<u32>
 {
     let mut value: u32 = 0;
     for b in digits {
-        if *b < b'0' || *b > b'9' {
-            return None;
-        }
-        value = value * 10 + (*b - b'0') as u32;
-        if value > GREATEST_EXPONENT {
+        value = value * 10 + char::from(*b).to_digit(10)?;
+        if value >= LONG_EXPONENT {
             return None;
         }
     }
@@ -69,13 +58,12 @@ fn lead(text: &[u8], at: usize) -> (bool, usize)
     requires { at ≤ length text.now }
     ensures { Led text.now at result.0 result.1 }
 {
-    if at >= text.len() {
-        return (false, at);
-    }
-    match text[at] {
-        b'-' => (true, at + 1),
-        b'+' => (false, at + 1),
-        _ => (false, at),
+    if text[at..].starts_with(b"-") {
+        (true, at + 1)
+    } else if text[at..].starts_with(b"+") {
+        (false, at + 1)
+    } else {
+        (false, at)
     }
 }
 
@@ -88,11 +76,8 @@ fn power(text: &[u8], at: usize) -> Option<i32>
         return Some(0);
     }
     let (less, from) = lead(text, at + 1);
-    let Some(size) = size(&text[from..]) else {
-        return None;
-    };
-    let size = size as i32;
-    if less { Some(-size) } else { Some(size) }
+    let size = size(&text[from..])? as i32;
+    Some(if less { -size } else { size })
 }
 
 // Adds digits after those from `base` on, and no zero before the first other digit.
@@ -114,25 +99,25 @@ fn trimmed(digits: &[u8], from: usize) -> usize
     requires { from ≤ length digits.now }
     ensures { Trimmed digits.now from result }
 {
-    let mut end = digits.len();
-    while end > from && digits[end - 1] == b'0' {
-        end -= 1;
+    let mut rest = &digits[from..];
+    while let [front @ .., b'0'] = rest {
+        rest = front;
     }
-    end
+    from + rest.len()
 }
 
 // Whether the number has a minus.
 fn minus(text: &[u8]) -> bool
     ensures { Signs text.now result }
 {
-    !text.is_empty() && text[0] == b'-'
+    text.starts_with(b"-")
 }
 
 // Where the digits begin.
 fn begin(negative: bool) -> usize
     ensures { result ≡ start_of negative }
 {
-    if negative { 1 } else { 0 }
+    usize::from(negative)
 }
 
 // Where the parts of the number stand that begins at `start`, after its minus if any.
@@ -141,21 +126,16 @@ fn locate(text: &[u8], start: usize) -> Parts
     ensures { Split text.now start result }
 {
     let point = run(text, start);
-    if point < text.len() && text[point] == b'.' {
-        let mark = run(text, point + 1);
-        Parts {
-            start,
-            point,
-            places: point + 1,
-            mark,
-        }
+    let (places, mark) = if text[point..].starts_with(b".") {
+        (point + 1, run(text, point + 1))
     } else {
-        Parts {
-            start,
-            point,
-            places: point,
-            mark: point,
-        }
+        (point, point)
+    };
+    Parts {
+        start,
+        point,
+        places,
+        mark,
     }
 }
 
@@ -183,9 +163,7 @@ pub fn normal(text: &[u8], out: &mut Vec<u8>) -> Result<Scale, Fault>
         places,
         mark,
     } = locate(text, begin(negative));
-    let Some(power) = power(text, mark) else {
-        return Err(Fault::LongNumber(0));
-    };
+    let power = power(text, mark).ok_or(Fault::LongNumber(0))?;
     let base = out.len();
     out.reserve(mark - start)?;
     add(out, base, &text[start..point]);
@@ -233,21 +211,17 @@ pub fn of_whole(text: &[u8]) -> (Scale, &[u8])
 }
 
 // Each number writes one thing, and what writes something is a number; to be worth the same is an equivalence.
-pub fn worth_stands() -> u8
+pub fn worth_stands()
     ensures written { NumbersWrite }
     ensures numbers { WritersAreNumbers }
     ensures once { WritesOnce }
     ensures alike { WorthIsEquivalence }
-{
-    0
-}
+{}
 
 // Numbers have the same normal form exactly where they are worth the same.
-pub fn forms_stand() -> u8
+pub fn forms_stand()
     ensures unique { FormsAreUnique }
     ensures equal { EqualNumbersEqualForms }
     ensures worth { EqualFormsEqualNumbers }
     ensures wholes { WholesAreUnique }
-{
-    0
-}
+{}

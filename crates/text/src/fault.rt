@@ -32,30 +32,30 @@ impl<T: Drop> From<AllocFailed<T>> for Fault {
 }
 
 impl Fault {
-    // The number of the refusal; 0 for want of memory, which is none.
-    pub fn number(self) -> u8
+    // The number of the refusal; none for want of memory, which is no refusal.
+    pub fn number(self) -> Option<u8>
         ensures { result ≡ number_of self }
     {
         match self {
-            Fault::BadText(_) => 1,
-            Fault::TooDeep(_) => 2,
-            Fault::NoSpace(_) => 3,
-            Fault::RepeatedName(_) => 4,
-            Fault::LongNumber(_) => 5,
-            Fault::NoMemory => 0,
+            Fault::BadText(_) => Some(1),
+            Fault::TooDeep(_) => Some(2),
+            Fault::NoSpace(_) => Some(3),
+            Fault::RepeatedName(_) => Some(4),
+            Fault::LongNumber(_) => Some(5),
+            Fault::NoMemory => None,
         }
     }
 
-    // Where in the text the fault lies.
+    // Where in the text the fault lies; 0 for want of memory.
     pub fn place(self) -> usize
         ensures { result ≡ place_of self }
     {
         match self {
-            Fault::BadText(at) => at,
-            Fault::TooDeep(at) => at,
-            Fault::NoSpace(at) => at,
-            Fault::RepeatedName(at) => at,
-            Fault::LongNumber(at) => at,
+            Fault::BadText(at)
+            | Fault::TooDeep(at)
+            | Fault::NoSpace(at)
+            | Fault::RepeatedName(at)
+            | Fault::LongNumber(at) => at,
             Fault::NoMemory => 0,
         }
     }

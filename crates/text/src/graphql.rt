@@ -1,18 +1,17 @@
 // The tokens of GraphQL.
-ghost use Rattle.std.specs.Prelude.{◌≡◌, ℕ, ◌+◌, ◌<◌, ◌≤◌, length, IfOk, MatchBool, slice_index};
+ghost use Rattle.std.specs.Prelude.{◌≡◌, ◌+◌, ◌<◌, ◌≤◌, length, IfOk, MatchBool, slice_index};
 ghost use Rattle.text.specs.Places.{Placed, is_end};
 ghost use Rattle.text.specs.StringGrammar.{LineTerminator};
 ghost use Rattle.text.specs.TokenGrammar.{NumberFirst, NumberGoesOn, NameStart, NameContinue, CommentCode, CommentChar, Comment, IgnoredByte, ByteOrderMark, GraphqlIgnored, Punctuator};
-ghost use Rattle.text.specs.TokenFound.{Skipped, StepTold, MarkTold, NameEnd, TokenHere, TokenTold};
+ghost use Rattle.text.specs.TokenFound.{Skipped, StepTold, MarkTold, NameEnd, FoundHere, TokenTold};
 ghost use Rattle.text.specs.declared.language.Language.TheVariants.{Graphql};
 
 use crate::fault::Fault;
 use crate::language::Language;
+use crate::limits::LONGEST_NAME;
+use crate::run::run_end;
 use crate::token::{Lexeme, Token, begins_number};
-use crate::{number, string};
-
-// A name has at most so many bytes.
-const LONGEST_NAME: usize = 127;
+use crate::{string, token};
 
 const BYTE_ORDER_MARK: char = '\u{FEFF}';
 
@@ -27,10 +26,8 @@ fn comment_code(c: char) -> bool
 fn comment_char(text: &[u8], at: usize) -> Option<usize>
     ensures { StepTold CommentChar text.now at result }
 {
-    let Some((c, end)) = string::character(text, at) else {
-        return None;
-    };
-    if comment_code(c) { Some(end) } else { None }
+    let (c, end) = string::character(text, at)?;
+    comment_code(c).then_some(end)
 }
 
 fn ends_line(byte: u8) -> bool
@@ -46,10 +43,7 @@ fn comment(text: &[u8], at: usize) -> Option<usize>
 {
     let mut next = at + 1;
     while next < text.len() && !ends_line(text[next]) {
-        let Some(end) = comment_char(text, next) else {
-            return None;
-        };
-        next = end;
+        next = comment_char(text, next)?;
     }
     Some(next)
 }
@@ -58,14 +52,8 @@ fn comment(text: &[u8], at: usize) -> Option<usize>
 fn byte_order_mark(text: &[u8], at: usize) -> Option<usize>
     ensures { StepTold ByteOrderMark text.now at result }
 {
-    let Some((c, end)) = string::character(text, at) else {
-        return None;
-    };
-    if c == BYTE_ORDER_MARK {
-        Some(end)
-    } else {
-        None
-    }
+    let (c, end) = string::character(text, at)?;
+    (c == BYTE_ORDER_MARK).then_some(end)
 }
 
 // White space, line terminators and commas.
@@ -79,10 +67,7 @@ fn ignored_byte(byte: u8) -> bool
 fn ignored(text: &[u8], at: usize) -> Option<usize>
     ensures { StepTold GraphqlIgnored text.now at result }
 {
-    if at >= text.len() {
-        return None;
-    }
-    let byte = text[at];
+    let byte = *text.get(at)?;
     if ignored_byte(byte) {
         return Some(at + 1);
     }
@@ -121,18 +106,13 @@ fn name_end(text: &[u8], start: usize) -> usize
     requires { start < length text.now }
     ensures { NameEnd text.now start result }
 {
-    let mut end = start + 1;
-    while end < text.len() && continues_name(text[end]) {
-        end += 1;
-    }
-    end
+    run_end(text, start + 1, continues_name)
 }
 
 // The name that begins at `start`.
 fn name(text: &[u8], start: usize) -> Result<Lexeme<'_>, Fault>
     requires { (start < length text.now) × NameStart (slice_index text.now start) }
-    ensures found { TokenHere Graphql text.now start result }
-    ensures placed { IfOk result (λ l. Placed (length text.now) start l.start l.end (is_end l.token)) }
+    ensures { FoundHere Graphql text.now start result }
 {
     let end = name_end(text, start);
     if end - start > LONGEST_NAME {
@@ -155,51 +135,33 @@ fn goes_on(byte: u8) -> bool
 // The number that begins at `start`; no digit, point or name may follow it.
 fn numeral(text: &[u8], start: usize) -> Result<Lexeme<'_>, Fault>
     requires { (start < length text.now) × NumberFirst (slice_index text.now start) }
-    ensures found { TokenHere Graphql text.now start result }
-    ensures placed { IfOk result (λ l. Placed (length text.now) start l.start l.end (is_end l.token)) }
+    ensures { FoundHere Graphql text.now start result }
 {
-    let (end, kind) = number::scan(text, start)?;
+    let number = token::numeral(text, start)?;
+    let end = number.end;
     if end < text.len() && goes_on(text[end]) {
         return Err(Fault::BadText(start));
     }
-    Ok(Lexeme {
-        token: Token::number(kind, &text[start..end]),
-        start,
-        end,
-    })
+    Ok(number)
 }
 
 // The string that begins at `start`; three quotation marks begin none.
 fn quoted(text: &[u8], start: usize) -> Result<Lexeme<'_>, Fault>
     requires { (start < length text.now) × (slice_index text.now start ≡ 34) }
-    ensures found { TokenHere Graphql text.now start result }
-    ensures placed { IfOk result (λ l. Placed (length text.now) start l.start l.end (is_end l.token)) }
+    ensures { FoundHere Graphql text.now start result }
 {
-    let rest = &text[start..];
-    if rest.starts_with(b"\"\"\"") {
+    if text[start..].starts_with(b"\"\"\"") {
         return Err(Fault::BadText(start));
     }
-    let from = start + 1;
-    let Some((end, plain)) = string::scan(text, from, Language::Graphql) else {
-        return Err(Fault::BadText(start));
-    };
-    let to = end - 1;
-    let raw = &text[from..to];
-    Ok(Lexeme {
-        token: Token::Text { raw, plain },
-        start,
-        end,
-    })
+    token::quoted(text, start, Language::Graphql)
 }
 
 // The three points that begin at `start`.
 fn spread(text: &[u8], start: usize) -> Result<Lexeme<'_>, Fault>
     requires { (start < length text.now) × (slice_index text.now start ≡ 46) }
-    ensures found { TokenHere Graphql text.now start result }
-    ensures placed { IfOk result (λ l. Placed (length text.now) start l.start l.end (is_end l.token)) }
+    ensures { FoundHere Graphql text.now start result }
 {
-    let rest = &text[start..];
-    if !rest.starts_with(b"...") {
+    if !text[start..].starts_with(b"...") {
         return Err(Fault::BadText(start));
     }
     Ok(Lexeme {
@@ -234,26 +196,16 @@ fn punctuator<'a>(byte: u8) -> Option<Token<'a>>
 // The token that begins at `start`.
 fn token_at(text: &[u8], start: usize) -> Result<Lexeme<'_>, Fault>
     requires { start ≤ length text.now }
-    ensures found { TokenHere Graphql text.now start result }
-    ensures placed { IfOk result (λ l. Placed (length text.now) start l.start l.end (is_end l.token)) }
+    ensures { FoundHere Graphql text.now start result }
 {
-    if start >= text.len() {
-        return Ok(Lexeme {
-            token: Token::End,
-            start,
-            end: start,
-        });
-    }
-    let byte = text[start];
+    let Some(&byte) = text.get(start) else {
+        return Ok(Lexeme::end_at(start));
+    };
     if begins_name(byte) {
         return name(text, start);
     }
     if let Some(token) = punctuator(byte) {
-        return Ok(Lexeme {
-            token,
-            start,
-            end: start + 1,
-        });
+        return Ok(Lexeme::mark(token, start));
     }
     if begins_number(byte) {
         return numeral(text, start);

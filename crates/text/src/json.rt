@@ -1,14 +1,14 @@
 // The tokens of JSON.
-ghost use Rattle.std.specs.Prelude.{◌≡◌, ℕ, ◌+◌, ◌<◌, ◌≤◌, length, IfOk, MatchBool, slice_index};
+ghost use Rattle.std.specs.Prelude.{◌≡◌, ◌+◌, ◌<◌, ◌≤◌, length, IfOk, MatchBool, slice_index};
 ghost use Rattle.text.specs.Places.{Placed, is_end};
-ghost use Rattle.text.specs.TokenGrammar.{NumberFirst, WhiteSpace, Structural, LiteralName};
-ghost use Rattle.text.specs.TokenFound.{Skipped, MarkTold, TokenHere, TokenTold};
+ghost use Rattle.text.specs.TokenGrammar.{WhiteSpace, Structural, LiteralName};
+ghost use Rattle.text.specs.TokenFound.{Skipped, MarkTold, FoundHere, TokenTold};
 ghost use Rattle.text.specs.declared.language.Language.TheVariants.{Json};
 
 use crate::fault::Fault;
 use crate::language::Language;
-use crate::token::{Lexeme, Token, begins_number};
-use crate::{number, string};
+use crate::run::run_end;
+use crate::token::{Lexeme, Token, begins_number, numeral, quoted};
 
 fn white_space(byte: u8) -> bool
     ensures { MatchBool result (WhiteSpace byte) (WhiteSpace byte → ⊥) }
@@ -20,11 +20,7 @@ fn white_space(byte: u8) -> bool
 fn skip(text: &[u8], at: usize) -> usize
     ensures { Skipped Json text.now at result }
 {
-    let mut next = at.min(text.len());
-    while next < text.len() && white_space(text[next]) {
-        next += 1;
-    }
-    next
+    run_end(text, at.min(text.len()), white_space)
 }
 
 // The structural character that a byte is.
@@ -47,11 +43,9 @@ fn literal<'a>(text: &'a [u8], start: usize, word: &[u8]) -> Result<Lexeme<'a>, 
     requires start_in_bounds { start < length text.now }
     requires literal_name { LiteralName word.now }
     requires start_value { slice_index text.now start ≡ slice_index word.now 0 }
-    ensures found { TokenHere Json text.now start result }
-    ensures placed { IfOk result (λ l. Placed (length text.now) start l.start l.end (is_end l.token)) }
+    ensures { FoundHere Json text.now start result }
 {
-    let rest = &text[start..];
-    if !rest.starts_with(word) {
+    if !text[start..].starts_with(word) {
         return Err(Fault::BadText(start));
     }
     let end = start + word.len();
@@ -62,65 +56,22 @@ fn literal<'a>(text: &'a [u8], start: usize, word: &[u8]) -> Result<Lexeme<'a>, 
     })
 }
 
-// The number that begins at `start`.
-fn numeral(text: &[u8], start: usize) -> Result<Lexeme<'_>, Fault>
-    requires { (start < length text.now) × NumberFirst (slice_index text.now start) }
-    ensures found { TokenHere Json text.now start result }
-    ensures placed { IfOk result (λ l. Placed (length text.now) start l.start l.end (is_end l.token)) }
-{
-    let (end, kind) = number::scan(text, start)?;
-    Ok(Lexeme {
-        token: Token::number(kind, &text[start..end]),
-        start,
-        end,
-    })
-}
-
-// The string that begins at `start`.
-fn quoted(text: &[u8], start: usize) -> Result<Lexeme<'_>, Fault>
-    requires { (start < length text.now) × (slice_index text.now start ≡ 34) }
-    ensures found { TokenHere Json text.now start result }
-    ensures placed { IfOk result (λ l. Placed (length text.now) start l.start l.end (is_end l.token)) }
-{
-    let from = start + 1;
-    let Some((end, plain)) = string::scan(text, from, Language::Json) else {
-        return Err(Fault::BadText(start));
-    };
-    let to = end - 1;
-    let raw = &text[from..to];
-    Ok(Lexeme {
-        token: Token::Text { raw, plain },
-        start,
-        end,
-    })
-}
-
 // The token that begins at `start`.
 fn token_at(text: &[u8], start: usize) -> Result<Lexeme<'_>, Fault>
     requires { start ≤ length text.now }
-    ensures found { TokenHere Json text.now start result }
-    ensures placed { IfOk result (λ l. Placed (length text.now) start l.start l.end (is_end l.token)) }
+    ensures { FoundHere Json text.now start result }
 {
-    if start >= text.len() {
-        return Ok(Lexeme {
-            token: Token::End,
-            start,
-            end: start,
-        });
-    }
-    let byte = text[start];
+    let Some(&byte) = text.get(start) else {
+        return Ok(Lexeme::end_at(start));
+    };
     if let Some(token) = structural(byte) {
-        return Ok(Lexeme {
-            token,
-            start,
-            end: start + 1,
-        });
+        return Ok(Lexeme::mark(token, start));
     }
     if begins_number(byte) {
         return numeral(text, start);
     }
     match byte {
-        b'"' => quoted(text, start),
+        b'"' => quoted(text, start, Language::Json),
         b't' => literal(text, start, b"true"),
         b'f' => literal(text, start, b"false"),
         b'n' => literal(text, start, b"null"),

@@ -6,6 +6,8 @@ pub mod fault;
 pub mod graphql;
 pub mod json;
 pub mod language;
+pub mod limits;
 pub mod number;
+mod run;
 pub mod string;
 pub mod token;

@@ -1,9 +1,10 @@
 // Scans the number that begins at a place of a text.
 ghost use Rattle.std.specs.Prelude.{◌≡◌, ◌≤◌};
-ghost use Rattle.text.specs.NumberMoves.{Stepped, kind_in};
+ghost use Rattle.text.specs.NumberMoves.{Stepped, Finished, kind_in};
 ghost use Rattle.text.specs.NumberScan.{Scanned, OneScan};
 
 use crate::fault::Fault;
+use crate::limits::{LONG_EXPONENT, LONGEST_NUMBER};
 
 // A number with neither a fraction nor an exponent is whole.
 #[derive(Clone, Copy, Debug, PartialEq)]
@@ -26,12 +27,6 @@ enum State {
     ExpDigits,
 }
 
-// A number token has at most so many bytes.
-const LONGEST_NUMBER: usize = 1000;
-
-// The digits of an exponent write less than this.
-const LONG_EXPONENT: u32 = 1_000_000;
-
 // The state, and what the digits of the exponent write so far, as far as `LONG_EXPONENT`.
 #[derive(Clone, Copy)]
 struct Scanner {
@@ -40,38 +35,52 @@ struct Scanner {
 }
 
 impl Scanner {
-    // Takes one more byte, if it continues a number.
-    fn step(&mut self, byte: u8) -> bool
-        requires { self.old.exponent ≤ 1000000 }
-        ensures { Stepped self.old byte result self.new }
+    // After one more byte, if it continues a number.
+    fn step(self, byte: u8) -> Option<Scanner>
+        requires { self.exponent ≤ 1000000 }
+        ensures { Stepped self byte result }
     {
-        match (self.state, byte) {
-            (State::Start, b'-') => self.state = State::Minus,
-            (State::Start | State::Minus, b'0') => self.state = State::Zero,
-            (State::Start | State::Minus, b'1'..=b'9') => self.state = State::Int,
-            (State::Int, b'0'..=b'9') => self.state = State::Int,
-            (State::Zero | State::Int, b'.') => self.state = State::Point,
-            (State::Point | State::Frac, b'0'..=b'9') => self.state = State::Frac,
-            (State::Zero | State::Int | State::Frac, b'e' | b'E') => self.state = State::Exp,
-            (State::Exp, b'+' | b'-') => self.state = State::ExpSign,
+        let state = match (self.state, byte) {
+            (State::Start, b'-') => State::Minus,
+            (State::Start | State::Minus, b'0') => State::Zero,
+            (State::Start | State::Minus, b'1'..=b'9') => State::Int,
+            (State::Int, b'0'..=b'9') => State::Int,
+            (State::Zero | State::Int, b'.') => State::Point,
+            (State::Point | State::Frac, b'0'..=b'9') => State::Frac,
+            (State::Zero | State::Int | State::Frac, b'e' | b'E') => State::Exp,
+            (State::Exp, b'+' | b'-') => State::ExpSign,
             (State::Exp | State::ExpSign | State::ExpDigits, b'0'..=b'9') => {
-                self.exponent = (self.exponent * 10 + u32::from(byte - b'0')).min(LONG_EXPONENT);
-                self.state = State::ExpDigits;
+                let exponent = self.exponent * 10 + u32::from(byte - b'0');
+                return Some(Scanner {
+                    state: State::ExpDigits,
+                    exponent: exponent.min(LONG_EXPONENT),
+                });
             }
-            _ => return false,
-        }
-        true
+            _ => return None,
+        };
+        Some(Scanner { state, ..self })
     }
 
     // The kind of the number that the bytes so far are, if they are one.
-    fn kind(&self) -> Option<NumberKind>
-        ensures { result ≡ kind_in self.now.state }
+    fn kind(self) -> Option<NumberKind>
+        ensures { result ≡ kind_in self.state }
     {
         match self.state {
             State::Zero | State::Int => Some(NumberKind::Whole),
             State::Frac | State::ExpDigits => Some(NumberKind::Decimal),
             _ => None,
         }
+    }
+
+    // The number from `at` to `end` that the bytes so far are: its end and its kind.
+    fn finish(self, at: usize, end: usize) -> Result<(usize, NumberKind), Fault>
+        ensures { Finished self at end result }
+    {
+        let kind = self.kind().ok_or(Fault::BadText(at))?;
+        if self.exponent >= LONG_EXPONENT {
+            return Err(Fault::LongNumber(at));
+        }
+        Ok((end, kind))
     }
 }
 
@@ -83,28 +92,19 @@ pub fn scan(text: &[u8], at: usize) -> Result<(usize, NumberKind), Fault>
         state: State::Start,
         exponent: 0,
     };
-    let mut end = at;
-    while end < text.len() {
-        if !scanner.step(text[end]) {
-            break;
-        }
+    for end in at..text.len() {
+        let Some(next) = scanner.step(text[end]) else {
+            return scanner.finish(at, end);
+        };
         if end - at >= LONGEST_NUMBER {
             return Err(Fault::LongNumber(at));
         }
-        end += 1;
+        scanner = next;
     }
-    let Some(kind) = scanner.kind() else {
-        return Err(Fault::BadText(at));
-    };
-    if scanner.exponent >= LONG_EXPONENT {
-        return Err(Fault::LongNumber(at));
-    }
-    Ok((end, kind))
+    scanner.finish(at, at.max(text.len()))
 }
 
 // The contract of `scan` has one answer at each place of each text.
-pub fn one_scan() -> u8
+pub fn one_scan()
     ensures { OneScan }
-{
-    0
-}
+{}

@@ -15,11 +15,8 @@ const LAST_LOW: u32 = 0xDFFF;
 fn six(text: &[u8], at: usize) -> Option<u32>
     ensures { SixTold text.now at result }
 {
-    if at >= text.len() {
-        return None;
-    }
-    match text[at] {
-        0x80..0xC0 => Some((text[at] - 0x80) as u32),
+    match *text.get(at)? {
+        byte @ 0x80..0xC0 => Some(u32::from(byte - 0x80)),
         _ => None,
     }
 }
@@ -29,13 +26,9 @@ fn two(text: &[u8], at: usize) -> Option<(char, usize)>
     requires { (at < length text.now) × (194 ≤ slice_index text.now at) × (slice_index text.now at < 224) }
     ensures { Told Utf8Char text.now at result }
 {
-    let Some(y) = six(text, at + 1) else {
-        return None;
-    };
-    let code = (text[at] - 0xC0) as u32 * 0x40 + y;
-    let Some(c) = char::from_u32(code) else {
-        return None;
-    };
+    let y = six(text, at + 1)?;
+    let code = u32::from(text[at] - 0xC0) * 0x40 + y;
+    let c = char::from_u32(code)?;
     Some((c, at + 2))
 }
 
@@ -44,19 +37,13 @@ fn three(text: &[u8], at: usize) -> Option<(char, usize)>
     requires { (at < length text.now) × (224 ≤ slice_index text.now at) × (slice_index text.now at < 240) }
     ensures { Told Utf8Char text.now at result }
 {
-    let Some(y) = six(text, at + 1) else {
-        return None;
-    };
-    let Some(z) = six(text, at + 2) else {
-        return None;
-    };
-    let code = (text[at] - 0xE0) as u32 * 0x1000 + y * 0x40 + z;
+    let y = six(text, at + 1)?;
+    let z = six(text, at + 2)?;
+    let code = u32::from(text[at] - 0xE0) * 0x1000 + y * 0x40 + z;
     if code < 0x800 {
         return None;
     }
-    let Some(c) = char::from_u32(code) else {
-        return None;
-    };
+    let c = char::from_u32(code)?;
     Some((c, at + 3))
 }
 
@@ -65,22 +52,14 @@ fn four(text: &[u8], at: usize) -> Option<(char, usize)>
     requires { (at < length text.now) × (240 ≤ slice_index text.now at) }
     ensures { Told Utf8Char text.now at result }
 {
-    let Some(y) = six(text, at + 1) else {
-        return None;
-    };
-    let Some(z) = six(text, at + 2) else {
-        return None;
-    };
-    let Some(w) = six(text, at + 3) else {
-        return None;
-    };
-    let code = (text[at] - 0xF0) as u32 * 0x40000 + y * 0x1000 + z * 0x40 + w;
+    let y = six(text, at + 1)?;
+    let z = six(text, at + 2)?;
+    let w = six(text, at + 3)?;
+    let code = u32::from(text[at] - 0xF0) * 0x40000 + y * 0x1000 + z * 0x40 + w;
     if code < 0x10000 {
         return None;
     }
-    let Some(c) = char::from_u32(code) else {
-        return None;
-    };
+    let c = char::from_u32(code)?;
     Some((c, at + 4))
 }
 
@@ -88,11 +67,8 @@ fn four(text: &[u8], at: usize) -> Option<(char, usize)>
 pub fn character(text: &[u8], at: usize) -> Option<(char, usize)>
     ensures { Told Utf8Char text.now at result }
 {
-    if at >= text.len() {
-        return None;
-    }
-    match text[at] {
-        0..0x80 => Some((text[at] as char, at + 1)),
+    match *text.get(at)? {
+        byte @ 0..0x80 => Some((char::from(byte), at + 1)),
         0xC2..0xE0 => two(text, at),
         0xE0..0xF0 => three(text, at),
         0xF0.. => four(text, at),
@@ -104,12 +80,7 @@ pub fn character(text: &[u8], at: usize) -> Option<(char, usize)>
 fn hex(b: u8) -> Option<u32>
     ensures { HexTold b result }
 {
-    match b {
-        b'0'..=b'9' => Some((b - b'0') as u32),
-        b'a'..=b'f' => Some((b - b'a') as u32 + 10),
-        b'A'..=b'F' => Some((b - b'A') as u32 + 10),
-        _ => None,
-    }
+    char::from(b).to_digit(16)
 }
 
 // The value of the four hexadecimal digits at `at`.
@@ -117,21 +88,10 @@ fn hex4(text: &[u8], at: usize) -> Option<u32>
     requires { at ≤ length text.now }
     ensures { Hex4Told text.now at result }
 {
-    if text.len() - at < 4 {
-        return None;
-    }
-    let Some(a) = hex(text[at]) else {
+    let &[a, b, c, d, ..] = &text[at..] else {
         return None;
     };
-    let Some(b) = hex(text[at + 1]) else {
-        return None;
-    };
-    let Some(c) = hex(text[at + 2]) else {
-        return None;
-    };
-    let Some(d) = hex(text[at + 3]) else {
-        return None;
-    };
+    let (a, b, c, d) = (hex(a)?, hex(b)?, hex(c)?, hex(d)?);
     Some(((a * 16 + b) * 16 + c) * 16 + d)
 }
 
@@ -140,18 +100,10 @@ fn low_surrogate(text: &[u8], at: usize) -> Option<u32>
     requires { at ≤ length text.now }
     ensures { LowTold text.now at result }
 {
-    if text.len() - at < 2 {
+    if !text[at..].starts_with(b"\\u") {
         return None;
     }
-    if text[at] != b'\\' {
-        return None;
-    }
-    if text[at + 1] != b'u' {
-        return None;
-    }
-    let Some(low) = hex4(text, at + 2) else {
-        return None;
-    };
+    let low = hex4(text, at + 2)?;
     if low < FIRST_LOW || low > LAST_LOW {
         return None;
     }
@@ -163,22 +115,16 @@ fn unicode(text: &[u8], at: usize) -> Option<(char, usize)>
     requires { at ≤ length text.now }
     ensures { Told Code text.now at result }
 {
-    let Some(high) = hex4(text, at) else {
-        return None;
-    };
+    let high = hex4(text, at)?;
     if let Some(c) = char::from_u32(high) {
         return Some((c, at + 4));
     }
     if high >= FIRST_LOW {
         return None;
     }
-    let Some(low) = low_surrogate(text, at + 4) else {
-        return None;
-    };
+    let low = low_surrogate(text, at + 4)?;
     let code = 0x10000 + (high - 0xD800) * 0x400 + (low - FIRST_LOW);
-    let Some(c) = char::from_u32(code) else {
-        return None;
-    };
+    let c = char::from_u32(code)?;
     Some((c, at + 10))
 }
 
@@ -186,21 +132,16 @@ fn unicode(text: &[u8], at: usize) -> Option<(char, usize)>
 fn escape(text: &[u8], at: usize) -> Option<(char, usize)>
     ensures { Told Escape text.now at result }
 {
-    if at >= text.len() {
-        return None;
-    }
-    let letter = text[at];
+    let letter = *text.get(at)?;
     let end = at + 1;
-    match letter as char {
-        '"' => Some(('"', end)),
-        '\\' => Some(('\\', end)),
-        '/' => Some(('/', end)),
-        'b' => Some(('\u{8}', end)),
-        'f' => Some(('\u{C}', end)),
-        'n' => Some(('\n', end)),
-        'r' => Some(('\r', end)),
-        't' => Some(('\t', end)),
-        'u' => unicode(text, end),
+    match letter {
+        b'"' | b'\\' | b'/' => Some((char::from(letter), end)),
+        b'b' => Some(('\u{8}', end)),
+        b'f' => Some(('\u{C}', end)),
+        b'n' => Some(('\n', end)),
+        b'r' => Some(('\r', end)),
+        b't' => Some(('\t', end)),
+        b'u' => unicode(text, end),
         _ => None,
     }
 }
@@ -221,17 +162,11 @@ fn unescaped(c: char, language: Language) -> bool
 fn next(text: &[u8], at: usize, language: Language) -> Option<(char, usize)>
     ensures { Told (Char language) text.now at result }
 {
-    let Some((c, end)) = character(text, at) else {
-        return None;
-    };
+    let (c, end) = character(text, at)?;
     if c == '\\' {
         return escape(text, end);
     }
-    if unescaped(c, language) {
-        Some((c, end))
-    } else {
-        None
-    }
+    unescaped(c, language).then_some((c, end))
 }
 
 // The string whose opening mark stands before `at`: where it ends, and whether it has no escape.
@@ -240,14 +175,12 @@ pub fn scan(text: &[u8], at: usize, language: Language) -> Option<(usize, bool)>
 {
     let mut end = at;
     let mut plain = true;
-    while end < text.len() {
-        if text[end] == b'"' {
+    while let Some(byte) = text.get(end) {
+        if *byte == b'"' {
             return Some((end + 1, plain));
         }
-        plain &= text[end] != b'\\';
-        let Some((_, after)) = next(text, end, language) else {
-            return None;
-        };
+        plain &= *byte != b'\\';
+        let (_, after) = next(text, end, language)?;
         end = after;
     }
     None
@@ -273,9 +206,7 @@ fn add(raw: &[u8], language: Language, out: &mut Vec<u8>) -> Result<(), Fault>
 {
     let mut at = 0;
     while at < raw.len() {
-        let Some((c, end)) = next(raw, at, language) else {
-            return Err(Fault::BadText(at));
-        };
+        let (c, end) = next(raw, at, language).ok_or(Fault::BadText(at))?;
         put(c, out)?;
         at = end;
     }
@@ -287,11 +218,9 @@ pub fn decode(raw: &[u8], language: Language, out: &mut Vec<u8>) -> Result<(), F
     ensures { DecodeTold language raw.now out.old.items out.new.items result }
 {
     let start = out.len();
-    match add(raw, language, out) {
-        Ok(()) => Ok(()),
-        Err(fault) => {
-            out.truncate(start);
-            Err(fault)
-        }
+    let added = add(raw, language, out);
+    if added.is_err() {
+        out.truncate(start);
     }
+    added
 }

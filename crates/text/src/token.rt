@@ -1,9 +1,13 @@
 // Tokens, each a part of its text.
-ghost use Rattle.std.specs.Prelude.{◌≡◌, MatchBool};
+ghost use Rattle.std.specs.Prelude.{◌≡◌, ◌+◌, ◌<◌, length, MatchBool};
 ghost use Rattle.text.specs.TokenGrammar.{NumberFirst};
-ghost use Rattle.text.specs.TokenFound.{view_of, v_number, OneToken};
+ghost use Rattle.text.specs.TokenFound.{view_of, v_number, NumeralTold, QuotedTold, OneToken};
+ghost use Rattle.text.specs.declared.token.Token.TheVariants.{End};
 
+use crate::fault::Fault;
+use crate::language::Language;
 use crate::number::NumberKind;
+use crate::{number, string};
 
 #[derive(Clone, Copy, Debug)]
 pub enum Token<'a> {
@@ -49,6 +53,58 @@ pub struct Lexeme<'a> {
     pub end: usize,
 }
 
+impl<'a> Lexeme<'a> {
+    // The end of a text, at `at`.
+    pub(crate) fn end_at(at: usize) -> Lexeme<'a>
+        ensures { result ≡ record { token = End; start = at; end = at } }
+    {
+        Lexeme {
+            token: Token::End,
+            start: at,
+            end: at,
+        }
+    }
+
+    // A token of one byte, at `at`.
+    pub(crate) fn mark(token: Token<'a>, at: usize) -> Lexeme<'a>
+        requires { at < usize.MAX }
+        ensures { result ≡ record { token = token.entry; start = at; end = at + 1 } }
+    {
+        Lexeme {
+            token,
+            start: at,
+            end: at + 1,
+        }
+    }
+}
+
+// The number that begins at `start`, whatever follows it.
+pub(crate) fn numeral(text: &[u8], start: usize) -> Result<Lexeme<'_>, Fault>
+    ensures { NumeralTold text.now start result }
+{
+    let (end, kind) = number::scan(text, start)?;
+    Ok(Lexeme {
+        token: Token::number(kind, &text[start..end]),
+        start,
+        end,
+    })
+}
+
+// The string whose opening mark stands at `start`.
+pub(crate) fn quoted(text: &[u8], start: usize, language: Language) -> Result<Lexeme<'_>, Fault>
+    requires { start < length text.now }
+    ensures { QuotedTold language text.now start result }
+{
+    let from = start + 1;
+    let (end, plain) = string::scan(text, from, language).ok_or(Fault::BadText(start))?;
+    let raw = &text[from..end - 1];
+    Ok(Lexeme {
+        token: Token::Text { raw, plain },
+        start,
+        end,
+    })
+}
+
 // Whether a number can begin with a byte.
 pub(crate) fn begins_number(byte: u8) -> bool
     ensures { MatchBool result (NumberFirst byte) (NumberFirst byte → ⊥) }
@@ -57,8 +113,6 @@ pub(crate) fn begins_number(byte: u8) -> bool
 }
 
 // The contract of the functions that find a token has one answer at each place of each text.
-pub fn one_token() -> u8
+pub fn one_token()
     ensures { OneToken }
-{
-    0
-}
+{}

@@ -1,39 +1,26 @@
 // Whether a default fits its type.
-use reader::literal::Literal;
 use schema::scalars;
-use schema::types::{Base, Type};
-use source::raw::{Kind, Source, Span};
-use source::tree::Tree;
+use schema::types::{Base, Shape};
+use source::raw::{Kind, Source};
 use text::decimal;
 
-// Whether the literal at the cursor of the tree, which holds no variable, fits the type.
-pub fn fits(tree: &Tree<'_>, at: usize, ty: &Type<'_>) -> bool {
-    source_fits(&Literal::new(tree, at), at, ty)
-}
-
-// The same of a value of any source.
-#[cycle(all_fit_source_fits)]
-pub fn source_fits<S: Source>(source: &S, at: usize, ty: &Type<'_>) -> bool {
+// Whether the value at the cursor, which holds no variable, fits the type.
+pub fn fits<S: Source>(source: &S, at: usize, shape: Shape) -> bool {
     let kind = source.kind(at);
     if kind == Kind::Null {
-        return !ty.is_non_null();
+        return !shape.is_non_null();
     }
-    if !ty.is_list() {
-        return scalar_fits(source, at, ty.base);
+    if !shape.is_list() {
+        return scalar_fits(source, at, shape.base);
     }
-    let item = ty.item();
-    if kind == Kind::List {
-        return all_fit(source, source.inside(at), &item);
+    let item = shape.item();
+    if kind != Kind::List {
+        // Any other value counts as a list of one.
+        return fits(source, at, item);
     }
-    // Any other value counts as a list of one.
-    source_fits(source, at, &item)
-}
-
-#[cycle(all_fit_source_fits)]
-fn all_fit<S: Source>(source: &S, items: Span, item: &Type<'_>) -> bool {
-    let mut span = items;
+    let mut span = source.inside(at);
     while let Some((at, rest)) = source.next(span) {
-        if !source_fits(source, at, item) {
+        if !fits(source, at, item) {
             return false;
         }
         span = rest;
@@ -50,10 +37,10 @@ fn scalar_fits<S: Source>(source: &S, at: usize, base: Base) -> bool {
             scalars::finite(digits, scale.exponent)
         }
         (Base::Float, Kind::Decimal) => scalars::finite(source.text(at), source.scale(at).exponent),
-        (Base::String, Kind::String) => true,
-        (Base::Boolean, Kind::Boolean) => true,
-        (Base::Id, Kind::String | Kind::Whole) => true,
-        (Base::Custom(_), _) => true,
+        (Base::String, Kind::String)
+        | (Base::Boolean, Kind::Boolean)
+        | (Base::Id, Kind::String | Kind::Whole)
+        | (Base::Custom(_), _) => true,
         _ => false,
     }
 }

@@ -25,16 +25,16 @@ impl From<Fault> for MakeFault {
 }
 
 impl MakeFault {
-    // The number of the refusal; 0 for want of memory, which is none.
-    pub fn number(self) -> u8
+    // The number of the refusal; none for want of memory, which is no refusal.
+    pub fn number(self) -> Option<u8>
         ensures { result ≡ number_of self }
     {
         match self {
             MakeFault::Text(fault) => fault.number(),
-            MakeFault::UnknownType(_) => 6,
-            MakeFault::NotInput(_) => 7,
-            MakeFault::BadDefault(_) => 8,
-            MakeFault::DefaultCycle(_) => 9,
+            MakeFault::UnknownType(_) => Some(6),
+            MakeFault::NotInput(_) => Some(7),
+            MakeFault::BadDefault(_) => Some(8),
+            MakeFault::DefaultCycle(_) => Some(9),
         }
     }
 
@@ -54,10 +54,10 @@ impl MakeFault {
     {
         match self {
             MakeFault::Text(fault) => fault.place(),
-            MakeFault::UnknownType(at) => at,
-            MakeFault::NotInput(at) => at,
-            MakeFault::BadDefault(at) => at,
-            MakeFault::DefaultCycle(at) => at,
+            MakeFault::UnknownType(at)
+            | MakeFault::NotInput(at)
+            | MakeFault::BadDefault(at)
+            | MakeFault::DefaultCycle(at) => at,
         }
     }
 }

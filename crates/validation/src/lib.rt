@@ -14,7 +14,6 @@ use schema::operation::Operation;
 use schema::types::Base;
 use schema::{definition, operation};
 use source::raw::Source;
-use source::tree;
 use std::alloc::Global;
 use text::fault::Fault;
 
@@ -38,10 +37,10 @@ pub fn make_operation<'a>(
     ensures { IfOk result (λ o. vec_len o.variables ≤ 64) }
 {
     let operation = operation::read_operation(heap, schema, text)?;
-    let repeated = tree::sooner(
-        repeated_variable(&operation),
-        operation.tree.repeated_member(),
-    );
+    let repeated = repeated_variable(&operation)
+        .into_iter()
+        .chain(operation.tree.repeated_member())
+        .min();
     if let Some(place) = repeated {
         return Err(MakeFault::Text(Fault::RepeatedName(place)));
     }
@@ -56,45 +55,43 @@ pub fn make_operation<'a>(
 
 // The place of the first scalar's name that is built in, or that an earlier scalar has.
 fn repeated_scalar(schema: &Schema<'_>) -> Option<usize> {
-    for (i, scalar) in schema.scalars.iter().enumerate() {
-        if definition::built_in(scalar.name).is_some() || schema.find(scalar.name) != Some(i) {
-            return Some(scalar.place);
-        }
-    }
-    None
+    schema
+        .scalars
+        .iter()
+        .enumerate()
+        .find(|(i, scalar)| {
+            definition::built_in(scalar.name).is_some() || schema.find(scalar.name) != Some(*i)
+        })
+        .map(|(_, scalar)| scalar.place)
 }
 
 // The place of the first variable's name that an earlier variable has.
 fn repeated_variable(operation: &Operation<'_>) -> Option<usize> {
-    for (i, variable) in operation.variables.iter().enumerate() {
-        if operation.find(variable.name) != Some(i) {
-            return Some(variable.name_place);
-        }
-    }
-    None
+    operation
+        .variables
+        .iter()
+        .enumerate()
+        .find(|(i, variable)| operation.find(variable.name) != Some(*i))
+        .map(|(_, variable)| variable.name_place)
 }
 
 // The place of the first type's name that stands for nothing.
 fn unknown_type(operation: &Operation<'_>) -> Option<usize> {
-    for variable in operation.variables.iter() {
-        let ty = variable.ty;
-        if ty.base == Base::Unknown {
-            return Some(ty.place);
-        }
-    }
-    None
+    operation
+        .variables
+        .iter()
+        .map(|variable| variable.ty)
+        .find(|ty| ty.shape.base == Base::Unknown)
+        .map(|ty| ty.place)
 }
 
 // The place of the first default that holds a variable or does not fit its type.
 fn bad_default(operation: &Operation<'_>) -> Option<usize> {
     let tree = &operation.tree;
-    for variable in operation.variables.iter() {
-        if let Some(at) = variable.default {
-            let ty = variable.ty;
-            if tree.holds_variable(at) || !defaults::fits(tree, at, &ty) {
-                return Some(tree.place(at));
-            }
-        }
-    }
-    None
+    operation.variables.iter().find_map(|variable| {
+        let at = variable.default?;
+        let literal = operation.literal(at);
+        let bad = tree.holds_variable(at) || !defaults::fits(&literal, at, variable.ty.shape);
+        bad.then_some(tree.place(at))
+    })
 }

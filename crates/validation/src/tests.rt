@@ -1,29 +1,25 @@
 // What is refused, by number and place.
+use crate::fault::MakeFault;
 use crate::{make_operation, make_schema};
-use reader::json::read_json;
-use schema::definition::Schema;
+use reader::document::{JsonText, read};
 use std::alloc::Global;
+use text::fault::Fault;
 
-// The number and the place of a schema's refusal; none where it is made.
+// The number and the place of a refusal.
+fn refusal<T: Drop>(made: Result<T, MakeFault>) -> Option<(u8, usize)> {
+    made.err()
+        .map(|fault| (fault.number().unwrap_or(0), fault.place()))
+}
+
 fn schema_refusal(heap: Global, text: &[u8]) -> Option<(u8, usize)> {
-    match make_schema(heap, text) {
-        Ok(_) => None,
-        Err(fault) => Some((fault.number(), fault.place())),
-    }
+    refusal(make_schema(heap, text))
 }
 
-fn refusal(heap: Global, schema: &Schema<'_>, text: &[u8]) -> Option<(u8, usize)> {
-    match make_operation(heap, schema, text) {
-        Ok(_) => None,
-        Err(fault) => Some((fault.number(), fault.place())),
-    }
-}
-
-// The same over a schema with one scalar, X.
+// Of an operation over a schema with one scalar, X.
 fn operation_refusal(heap: Global, text: &[u8]) -> Option<(u8, usize)> {
     match make_schema(heap, b"scalar X") {
-        Ok(schema) => refusal(heap, &schema, text),
-        Err(fault) => Some((fault.number(), fault.place())),
+        Ok(schema) => refusal(make_operation(heap, &schema, text)),
+        Err(fault) => refusal::<()>(Err(fault)),
     }
 }
 
@@ -85,12 +81,9 @@ fn bad_defaults(rt: HostRuntime) {
     );
 }
 
-// The number and the place of a JSON text's refusal; none where it is read.
 fn json_refusal(heap: Global, text: &[u8]) -> Option<(u8, usize)> {
-    match read_json(heap, text) {
-        Ok(_) => None,
-        Err(fault) => Some((fault.number(), fault.place())),
-    }
+    let made: Result<JsonText<'_>, Fault> = read(heap, text);
+    refusal(made.map_err(MakeFault::Text))
 }
 
 #[test]

@@ -1,8 +1,9 @@
-use Rattle.std.proofs.Common.{◌-◌, ◌≤◌, length}
+use Rattle.std.proofs.Common.{◌-◌, length}
+use Rattle.schema.specs.Reading.{Onward}
 use Rattle.declarations.proofs.document.enum_values.Given as goal
 
-abbrev pub invariant-loop-lexeme : goal.invariant-loop-lexeme
-invariant-loop-lexeme l = (l.at ≤ l.next) × (l.next ≤ length l.text)
+abbrev pub invariant-loop-token : goal.invariant-loop-token
+invariant-loop-token l = Onward 0 l.fn.tokens l.tokens
 
-abbrev pub decreases-loop-lexeme : goal.decreases-loop-lexeme
-decreases-loop-lexeme l = length l.text - l.next
+abbrev pub decreases-loop-token : goal.decreases-loop-token
+decreases-loop-token l = length l.tokens.text.now - l.tokens.at

@@ -10,6 +10,7 @@ use Rattle.source.specs.declared.raw.Kind.TheVariants.{Decimal}
 use Rattle.model.specs.Values.{Dec, scalar, decimal}
 use Rattle.reader.specs.Grammar.{l_decimal}
 use Rattle.reader.proofs.Leaves.{node_for, pool_part, not_beyond}
+use Rattle.names.specs.declared.part.Part.TheVariants.{Pool}
 use Rattle.reader.proofs.begin.decimal_node.Goals as goal
 
 only_memory : (ds before after : List ℕ) (k : ℕ) (f : Fault) → Numeral ds DecimalNumber → Told ds before after k (Err f) → f ≡ NoMemory
@@ -33,10 +34,10 @@ returns c text =
     let after = vec_items c.normal.new.out in
     let l : c.len-from.result ≡ length before = c.len-from.ensures ∙ c.args.pool.now.ok.0 in
     let m : c.len.result ≡ length after = c.len.ensures ∙ c.normal.new.out.ok.0 in
-    let q = pool_part text before a.digits after c.of_pool.result a.added (c.of_pool.ensures ∙ (λ i. record { start = l i; end = m i; pooled = mathlib.Core.Bool.true })) in
+    let q = pool_part text before a.digits after c.len-from.result c.len.result a.added l m in
     record {
       tree = scalar c.args.start (decimal d);
       leaf = l_decimal a.normal;
-      node = node_for text before after Decimal c.args.start c.args.name c.new.result c.new.result.flag c.in_ok-scale.scale c.of_pool.result (scalar c.args.start (decimal d)) c.new.ensures refl refl
+      node = node_for text before after Decimal c.args.start c.args.name c.new.result c.new.result.flag c.in_ok-scale.scale (Pool c.len-from.result c.len.result) (scalar c.args.start (decimal d)) c.new.ensures refl refl
           (ap (λ (n : Node). n.flag) c.new.ensures) refl refl q.0 q.1 a.digits a.added;
     }

@@ -1,8 +1,9 @@
-use Rattle.std.proofs.Common.{◌-◌, ◌≤◌, length}
+use Rattle.std.proofs.Common.{◌-◌, ◌≤◌}
+use Rattle.schema.specs.Reading.{Onward}
 use Rattle.schema.proofs.types.opening.Given as goal
 
-abbrev pub invariant-loop-lexeme : goal.invariant-loop-lexeme
-invariant-loop-lexeme l = (l.levels ≤ 8) × (l.at ≤ l.next) × (l.next ≤ length l.text)
+abbrev pub invariant-loop-place : goal.invariant-loop-place
+invariant-loop-place l = (l.levels ≤ 8) × Onward 0 l.initial.tokens l.tokens
 
-abbrev pub decreases-loop-lexeme : goal.decreases-loop-lexeme
-decreases-loop-lexeme l = 8 - l.levels
+abbrev pub decreases-loop-place : goal.decreases-loop-place
+decreases-loop-place l = 8 - l.levels

@@ -1,5 +1,5 @@
-use Rattle.std.proofs.Common.{◌<◌, ◌≤◌, length}
+use Rattle.schema.specs.Reading.{Onward}
 use Rattle.schema.proofs.types.read_type.Given as goal
 
-abbrev pub invariant-loop-level : goal.invariant-loop-level
-invariant-loop-level l = (l.at < l.next) × (l.next ≤ length l.text)
+abbrev pub invariant-loop-mark : goal.invariant-loop-mark
+invariant-loop-mark l = Onward 0 l.initial.tokens l.tokens

@@ -1,27 +1,11 @@
-use Rattle.std.proofs.Common.{sym, refl, ◌∙◌, arith}
-use Rattle.stored.proofs.CoForms.{untrue, decimal_zero, decimal_shaped, decimal_form_lem}
+use Rattle.std.proofs.Common.{arith, get_or, length, ◌<◌, ◌-◌, ◌≢◌}
+use Rattle.stored.proofs.CoForms.{zero_ended, decimal_told}
 use Rattle.stored.proofs.content.decimal_form.Goals as goal
-use Rattle.stored.proofs.content.decimal_form.Goals.{then-body-le-SCALE-via-then-body-le-SCALE, then-body-le-SCALE-via-else-body-le-SCALE+then-body-gt1, then-body-le-SCALE-via-else-body-le-SCALE+else-body-gt1+then-body-eq48}
 
-pub returns-then-zero : goal.returns-then-zero
-returns-then-zero c =
-    let told = c.zero.ensures in
-    (λ t. decimal_zero c.args.body.now (told.0 c.if-zero.true), λ w. refl)
+pub returns-in-0 : goal.returns-in-0
+returns-in-0 c = zero_ended c.args.body.now c.zero.result (grind arith) (grind arith) c.zero.ensures
 
-pub returns-then-body-le-SCALE : goal.returns-then-body-le-SCALE
-returns-then-body-le-SCALE c =
-    let told = c.zero.ensures in (
-      λ t. absurd (untrue t),
-      λ f. let s = decimal_shaped c.args.body.now (λ e. untrue (sym c.if-zero.false ∙ told.1 e)) f in absurd (
-          elim c.then-body-le-SCALE.branch [
-            | then-body-le-SCALE-via-then-body-le-SCALE w ↦ omega (arith, s.long)
-            | then-body-le-SCALE-via-else-body-le-SCALE+then-body-gt1 w ↦ omega (arith, s.sign)
-            | then-body-le-SCALE-via-else-body-le-SCALE+else-body-gt1+then-body-eq48 w ↦ s.last w.if-body-eq48.true
-          ]
-          ),
-    )
-
-pub returns : goal.returns
-returns c =
-    let told = c.zero.ensures in
-    decimal_form_lem c.args.body.now c.positive.result (λ e. untrue (sym c.if-zero.false ∙ told.1 e)) (omega arith) (omega arith) (λ e. omega arith) (λ k. (c.type_inv.body k).fits) c.positive.ensures
+pub returns-in-0-2 : goal.returns-in-0-2
+returns-in-0-2 c =
+    let last : 5 < length c.args.body.now → get_or c.args.body.now (length c.args.body.now - 1) 0 ≢ 48 = λ n e. grind arith in
+    decimal_told c.args.body.now c.positive.result (grind arith) (grind arith) last (λ k. (c.type_inv.body k).fits) c.positive.ensures

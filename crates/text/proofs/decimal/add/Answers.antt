@@ -28,8 +28,5 @@ loop-b-preserved c =
           )
     ]
 
-pub returns : goal.returns
-returns c = record {
-  grown = filled_all c.args.base (vec_items c.args.out.now) (vec_items c.loop-b.out) c.args.digits.now c.loop-b.b-index c.loop-b.invariant.0 (omega arith) (take_all c.loop-b.b-index c.args.digits.now c.loop-b-test.false);
-  room = c.loop-b.invariant.1;
-}
+pub returns-clause-grown : goal.returns-clause-grown
+returns-clause-grown c = filled_all c.args.base (vec_items c.args.out.now) (vec_items c.loop-b.out) c.args.digits.now c.loop-b.b-index c.loop-b.invariant.0 (omega arith) (take_all c.loop-b.b-index c.args.digits.now c.loop-b-test.false)

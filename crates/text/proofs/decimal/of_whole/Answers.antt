@@ -1,19 +1,7 @@
-use Rattle.std.proofs.Common.{◌≡◌, ◌-◌, ◌<◌, length, pos, sym, refl, arith, w32, to_z}
+use Rattle.std.proofs.Common.{◌≡◌, ◌-◌, ◌<◌, length, pos, refl, arith, w32, to_z}
 use Rattle.std.proofs.lemmas.Int.{ints}
-use Rattle.std.proofs.lemmas.List.{take_all}
 use Rattle.text.proofs.NormLaws.{of_whole_zero, of_whole_some}
 use Rattle.text.proofs.decimal.of_whole.Goals as goal
-
-pub returns-then-text-gt-LONGEST_NUMBER : goal.returns-then-text-gt-LONGEST_NUMBER
-returns-then-text-gt-LONGEST_NUMBER c = record {
-  from = 0;
-  to = length c.args.text.now;
-  forward = omega arith;
-  within = omega arith;
-  stands = sym (take_all (length c.args.text.now - 0) c.args.text.now (omega arith));
-  normal = λ h y. absurd (omega arith);
-  long = λ h. (refl, refl, refl);
-}
 
 pub returns-then-end-start : goal.returns-then-end-start
 returns-then-end-start c = record {

@@ -1,9 +1,8 @@
-use Rattle.std.proofs.Common.{arith}
-use Rattle.text.proofs.NormValues.{zeros_none, zeros_less}
+use Rattle.std.proofs.Common.{◌≡◌, ◌-◌, length, get_or, rules}
+use Rattle.text.proofs.NormValues.{trim_more}
 use Rattle.text.proofs.decimal.trimmed.Goals as goal
 
-pub loop-end-init : goal.loop-end-init
-loop-end-init c = (c.requires, omega arith, zeros_none c.args.digits.now _ (omega arith))
-
-pub loop-end-preserved : goal.loop-end-preserved
-loop-end-preserved c = (omega arith, omega arith, zeros_less c.args.digits.now c.loop-end.end (omega arith) c.loop-end.invariant.1 (omega arith) c.loop-end.invariant.2)
+pub loop-rest-preserved : goal.loop-rest-preserved
+loop-rest-preserved c =
+    let b : get_or c.loop-rest.rest.now (length c.loop-rest.rest.now - 1) 0 ≡ 48 = search rules in
+    trim_more c.args.digits.now c.args.from c.loop-rest.rest.now c.loop-rest.invariant c.in-48.len_at_least b

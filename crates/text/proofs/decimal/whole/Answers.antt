@@ -1,6 +1,7 @@
-use Rattle.std.proofs.Common.{◌≡◌, ℕ, ◌-◌, true, false, ◌≢◌, List, [], ◌∷◌, length, take, drop, sym, refl, ap, ◌∙◌, arith}
+use Rattle.std.proofs.Common.{◌≡◌, ℕ, ◌-◌, ◌≢◌, List, [], ◌∷◌, length, take, drop, sym, refl, ap, ◌∙◌}
 use Rattle.std.proofs.lemmas.Slice.Eq.{slice_eq-Decides}
 use Rattle.text.specs.NormalForm.{WholeOf}
+use Rattle.text.proofs.LexBase.{torn}
 use Rattle.text.proofs.NormLaws.{whole_normal}
 use Rattle.text.proofs.decimal.whole.Goals as goal
 use Rattle.std.proofs.lemmas.Bool.Decides.{Decides-eqb}
@@ -11,14 +12,12 @@ cut_minus text e = record { zero = λ h. ap (λ l. take (length l - 1) (drop 1 l
 left_alone : (text : List ℕ) → text ≢ 45 ∷ 48 ∷ [] → WholeOf text text
 left_alone text n = record { zero = λ h. absurd (n h); other = λ h. refl }
 
-pub returns-then-eq : goal.returns-then-eq
-returns-then-eq c =
+pub returns-then-eq-clause-normal : goal.returns-then-eq-clause-normal
+returns-then-eq-clause-normal c =
     let told = slice_eq-Decides Decides-eqb c.args.text.now c.as_slice.result.now c.eq.result c.eq.ensures in
-    let o = cut_minus c.args.text.now (told.0 c.if-eq.true ∙ c.as_slice.ensures) in
-    record { pinned = o; normal = whole_normal c.args.text.now _ o }
+    whole_normal c.args.text.now _ (cut_minus c.args.text.now (told.0 c.if-eq.true ∙ c.as_slice.ensures))
 
-pub returns-else-eq : goal.returns-else-eq
-returns-else-eq c =
+pub returns-else-eq-clause-normal : goal.returns-else-eq-clause-normal
+returns-else-eq-clause-normal c =
     let told = slice_eq-Decides Decides-eqb c.args.text.now c.as_slice.result.now c.eq.result c.eq.ensures in
-    let o = left_alone c.args.text.now (λ e. let z : false ≡ true = sym c.if-eq.false ∙ told.1 (e ∙ sym c.as_slice.ensures) in let n : ◌≡◌ {A = ℕ} 0 1 = cc in omega arith) in
-    record { pinned = o; normal = whole_normal c.args.text.now c.args.text.now o }
+    whole_normal c.args.text.now c.args.text.now (left_alone c.args.text.now (λ e. torn (told.1 (e ∙ sym c.as_slice.ensures)) c.if-eq.false))

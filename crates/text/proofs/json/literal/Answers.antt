@@ -1,20 +1,18 @@
 use Rattle.std.proofs.Common.{refl, arith}
-use Rattle.text.proofs.LexTold.{stands_placed, torn, begins_with, begins_fits}
+use Rattle.text.specs.declared.language.Language.TheVariants.{Json}
+use Rattle.text.proofs.LexBase.{begins, begins_not, begins_fits}
+use Rattle.text.proofs.LexTold.{stands_placed, none_here}
 use Rattle.text.proofs.LexJson.{literal_here, no_literal, literal_some}
 use Rattle.text.proofs.json.literal.Goals as goal
 
 pub returns-then-not-starts_with : goal.returns-then-not-starts_with
 returns-then-not-starts_with c =
-    let s = begins_with c.args.text.now c.args.word.now c.args.start c.starts_with.result c.starts_with.ensures.value in
-    record {
-      found = (refl, no_literal c.args.text.now c.args.start c.args.word.now c.requires.start_in_bounds c.requires.literal_name c.requires.start_value (λ r e. torn (s.1 r e) c.if-not-starts_with.true));
-      placed = tt;
-    }
+    none_here Json c.args.text.now c.args.start
+    (no_literal c.args.text.now c.args.start c.args.word.now c.requires.start_in_bounds c.requires.literal_name c.requires.start_value (begins_not c.args.text.now c.args.word.now c.args.start c.starts_with.ensures.value c.if-not-starts_with.true))
 
 pub returns : goal.returns
 returns c =
-    let s = begins_with c.args.text.now c.args.word.now c.args.start c.starts_with.result c.starts_with.ensures.value in
-    let e = s.0 c.if-not-starts_with.false in
+    let e = begins c.args.text.now c.args.word.now c.args.start c.starts_with.ensures.value c.if-not-starts_with.false in
     let long = begins_fits c.args.text.now c.args.word.now c.args.start (literal_some c.requires.literal_name) e in
     record {
       found = (refl, literal_here c.args.text.now c.args.start c.args.word.now c.requires.start_in_bounds c.requires.literal_name c.requires.start_value e long);

@@ -1,34 +1,43 @@
-use Rattle.std.proofs.Common.{refl, arith, rules}
-use Rattle.text.specs.TokenGrammar.{true_name, false_name, null_name}
-use Rattle.text.proofs.LexTold.{stands_placed}
-use Rattle.text.proofs.LexJson.{end_here, mark_here, no_token}
+use Rattle.std.proofs.Common.{ℕ, refl, sym, ◌∙◌, subst, arith}
+use Rattle.text.specs.TokenGrammar.{Structural, NumberFirst, true_name, false_name, null_name}
+use Rattle.text.specs.declared.language.Language.TheVariants.{Json}
+use Rattle.text.proofs.LexTold.{found_here, end_here as text_end, none_here, numeral_told, quoted_told}
+use Rattle.text.proofs.LexJson.{end_here, mark_here, string_here, no_string, number_here, no_number, no_token}
 use Rattle.text.proofs.json.token_at.Goals as goal
 
-pub returns-then-start-text : goal.returns-then-start-text
-returns-then-start-text c = record {
-  found = (refl, end_here c.args.text.now c.args.start c.if-start-text.true c.requires);
-  placed = record { onward = λ h. omega arith; ordered = omega arith; within = c.requires; some = λ e. absurd (search rules) };
-}
+pub returns-in_default : goal.returns-in_default
+returns-in_default c = rw c.end_at.ensures (text_end Json c.args.text.now c.args.start c.requires (end_here c.args.text.now c.args.start c.in_default.ensures.lookup.3 c.requires))
 
-pub returns-in-Some : goal.returns-in-Some
-returns-in-Some c =
-    let e = c.in-Some.ensures in
-    record {
-      found = (refl, mark_here c.args.text.now c.args.start e.0 _ c.if-start-text.false e.1 e.2);
-      placed = stands_placed _ _ _ _ (omega arith) (omega arith);
-    }
+pub returns-in-Some-structural : goal.returns-in-Some-structural
+returns-in-Some-structural c =
+    let e = c.in-Some-structural.ensures in
+    let b = c.in-Some.ensures.lookup.3 in
+    let s = subst (λ (k : ℕ). Structural k e.0) (b.1 0) e.1 in
+    rw c.mark.ensures (found_here Json c.args.text.now c.args.start _ refl (mark_here c.args.text.now c.args.start e.0 _ b.0 s e.2) (omega arith))
 
-pub literal-requires : goal.literal-requires
-literal-requires c = (record { start_in_bounds = c.if-start-text.false; literal_name = true_name; start_value = c.in-116.is })
+pub returns-then-begins_number : goal.returns-then-begins_number
+returns-then-begins_number c =
+    let b = c.in-Some.ensures.lookup.3 in
+    let f = subst NumberFirst (b.1 0) c.if-begins_number.ensures in
+    numeral_told Json c.args.text.now c.args.start (number_here c.args.text.now c.args.start) (no_number c.args.text.now c.args.start b.0 f) c.numeral.result c.numeral.ensures
 
-pub literal-requires-in-102 : goal.literal-requires-in-102
-literal-requires-in-102 c = (record { start_in_bounds = c.if-start-text.false; literal_name = false_name; start_value = c.in-102.is })
+pub literal-requires-clause-literal_name : goal.literal-requires-clause-literal_name
+literal-requires-clause-literal_name c = true_name
 
-pub literal-requires-in-110 : goal.literal-requires-in-110
-literal-requires-in-110 c = (record { start_in_bounds = c.if-start-text.false; literal_name = null_name; start_value = c.in-110.is })
+pub literal-requires-in-102-clause-literal_name : goal.literal-requires-in-102-clause-literal_name
+literal-requires-in-102-clause-literal_name c = false_name
+
+pub literal-requires-in-110-clause-literal_name : goal.literal-requires-in-110-clause-literal_name
+literal-requires-in-110-clause-literal_name c = null_name
+
+pub returns-in-34 : goal.returns-in-34
+returns-in-34 c =
+    let b = c.in-Some.ensures.lookup.3 in
+    let q = sym (b.1 0) ∙ c.in-34.is in
+    quoted_told Json c.args.text.now c.args.start (λ j p s. string_here c.args.text.now c.args.start j p b.0 q s) (no_string c.args.text.now c.args.start b.0 q) c.quoted.result c.quoted.ensures
 
 pub returns-in_default-byte : goal.returns-in_default-byte
-returns-in_default-byte c = record {
-  found = (refl, no_token c.args.text.now c.args.start c.if-start-text.false c.in_default.ensures (omega arith) c.if-begins_number.ensures (omega arith) (omega arith) (omega arith));
-  placed = tt;
-}
+returns-in_default-byte c =
+    let b = c.in-Some.ensures.lookup.3 in
+    let e = b.1 0 in
+    none_here Json c.args.text.now c.args.start (no_token c.args.text.now c.args.start b.0 (λ m s. c.in_default-structural.ensures m (subst (λ (k : ℕ). Structural k m) (sym e) s)) (omega arith) (λ f. c.if-begins_number.ensures (subst NumberFirst (sym e) f)) (omega arith) (omega arith) (omega arith))

@@ -1,37 +1,40 @@
-use Rattle.std.proofs.Common.{refl, arith}
-use Rattle.text.specs.StringGrammar.{quote, backslash, slash, backspace, form_feed, line_feed, carriage_return, tab}
+use Rattle.std.proofs.Common.{◌+◌, sym, subst, ◌∙◌, ⊎_elim, arith, rules}
+use Rattle.text.specs.StringDecode.{Exactly}
+use Rattle.text.specs.StringGrammar.{Escape, quote, backslash, slash, backspace, form_feed, line_feed, carriage_return, tab}
 use Rattle.text.proofs.StrChars.{escape_end, escape_short, escape_u, escape_other}
 use Rattle.text.proofs.string.escape.Goals as goal
 
-pub returns-then-at-text : goal.returns-then-at-text
-returns-then-at-text c = escape_end c.args.text.now c.args.at c.if-at-text.true
+pub returns-in_err-letter : goal.returns-in_err-letter
+returns-in_err-letter c = rw c.from_residual.ensures (escape_end c.args.text.now c.args.at c.in_err-letter.ensures.lookup.3)
 
 pub returns-in-34 : goal.returns-in-34
-returns-in-34 c = escape_short c.args.text.now c.args.at c.if-at-text.false c.in-34.is quote
+returns-in-34 c =
+    let b = c.in_ok-letter.ensures.lookup.3 in
+    let e = sym (b.1 0) in
+    subst (λ n. Exactly Escape c.args.text.now c.args.at n (c.args.at + 1)) (sym c.from.ensures)
+    (⊎_elim (λ h. subst (λ n. Exactly Escape c.args.text.now c.args.at n (c.args.at + 1)) (sym h) (escape_short c.args.text.now c.args.at b.0 (e ∙ h) quote))
+    (⊎_elim (λ h. subst (λ n. Exactly Escape c.args.text.now c.args.at n (c.args.at + 1)) (sym h) (escape_short c.args.text.now c.args.at b.0 (e ∙ h) slash))
+    (λ h. subst (λ n. Exactly Escape c.args.text.now c.args.at n (c.args.at + 1)) (sym h) (escape_short c.args.text.now c.args.at b.0 (e ∙ h) backslash))) c.in-34.is)
 
-pub returns-in-92 : goal.returns-in-92
-returns-in-92 c = escape_short c.args.text.now c.args.at c.if-at-text.false c.in-92.is backslash
+pub returns-in-98 : goal.returns-in-98
+returns-in-98 c = let b = c.in_ok-letter.ensures.lookup.3 in escape_short c.args.text.now c.args.at b.0 (sym (b.1 0) ∙ c.in-98.is) backspace
 
-pub returns-in-47 : goal.returns-in-47
-returns-in-47 c = escape_short c.args.text.now c.args.at c.if-at-text.false c.in-47.is slash
+pub returns-in-102 : goal.returns-in-102
+returns-in-102 c = let b = c.in_ok-letter.ensures.lookup.3 in escape_short c.args.text.now c.args.at b.0 (sym (b.1 0) ∙ c.in-102.is) form_feed
 
-pub returns-in-b : goal.returns-in-b
-returns-in-b c = escape_short c.args.text.now c.args.at c.if-at-text.false c.in-b.is backspace
+pub returns-in-110 : goal.returns-in-110
+returns-in-110 c = let b = c.in_ok-letter.ensures.lookup.3 in escape_short c.args.text.now c.args.at b.0 (sym (b.1 0) ∙ c.in-110.is) line_feed
 
-pub returns-in-f : goal.returns-in-f
-returns-in-f c = escape_short c.args.text.now c.args.at c.if-at-text.false c.in-f.is form_feed
+pub returns-in-114 : goal.returns-in-114
+returns-in-114 c = let b = c.in_ok-letter.ensures.lookup.3 in escape_short c.args.text.now c.args.at b.0 (sym (b.1 0) ∙ c.in-114.is) carriage_return
 
-pub returns-in-n : goal.returns-in-n
-returns-in-n c = escape_short c.args.text.now c.args.at c.if-at-text.false c.in-n.is line_feed
+pub returns-in-116 : goal.returns-in-116
+returns-in-116 c = let b = c.in_ok-letter.ensures.lookup.3 in escape_short c.args.text.now c.args.at b.0 (sym (b.1 0) ∙ c.in-116.is) tab
 
-pub returns-in-r : goal.returns-in-r
-returns-in-r c = escape_short c.args.text.now c.args.at c.if-at-text.false c.in-r.is carriage_return
-
-pub returns-in-t : goal.returns-in-t
-returns-in-t c = escape_short c.args.text.now c.args.at c.if-at-text.false c.in-t.is tab
-
-pub returns-in-u : goal.returns-in-u
-returns-in-u c = escape_u c.args.text.now c.args.at c.if-at-text.false c.in-u.is c.unicode.result c.unicode.ensures
+pub returns-in-117 : goal.returns-in-117
+returns-in-117 c = let b = c.in_ok-letter.ensures.lookup.3 in escape_u c.args.text.now c.args.at b.0 (sym (b.1 0) ∙ c.in-117.is) c.unicode.result c.unicode.ensures
 
 pub returns-in_default : goal.returns-in_default
-returns-in_default c = escape_other c.args.text.now c.args.at c.if-at-text.false _ refl (omega arith) (omega arith) (omega arith) (omega arith) (omega arith) (omega arith) (omega arith) (omega arith) (omega arith)
+returns-in_default c =
+    let b = c.in_ok-letter.ensures.lookup.3 in
+    escape_other c.args.text.now c.args.at b.0 _ (sym (b.1 0)) (search rules) (search rules) (search rules) (omega arith) (omega arith) (omega arith) (omega arith) (omega arith) (omega arith)

@@ -2,32 +2,32 @@ use Rattle.std.proofs.Common.{⊎_elim, arith}
 use Rattle.text.proofs.StrUtf8.{by_three, utf8_three}
 use Rattle.text.proofs.string.three.Goals as goal
 
-pub returns-in_default : goal.returns-in_default
-returns-in_default c y r u =
+pub returns-in_err-y : goal.returns-in_err-y
+returns-in_err-y c = rw c.from_residual.ensures (λ y r u.
     let p = by_three c.args.text.now c.args.at u (omega arith) (omega arith) in
-    omega (arith, c.in_default.ensures (omega arith) (omega arith))
+    omega (arith, c.in_err-y.ensures (omega arith) (omega arith)))
 
-pub returns-in_default-six : goal.returns-in_default-six
-returns-in_default-six c y r u =
+pub returns-in_err-z : goal.returns-in_err-z
+returns-in_err-z c = rw c.from_residual-in_err-z.ensures (λ y r u.
     let p = by_three c.args.text.now c.args.at u (omega arith) (omega arith) in
-    omega (arith, c.in_default-six.ensures (omega arith) (omega arith))
+    omega (arith, c.in_err-z.ensures (omega arith) (omega arith)))
 
 pub returns-then-code-lt2048 : goal.returns-then-code-lt2048
 returns-then-code-lt2048 c y r u =
     let p = by_three c.args.text.now c.args.at u (omega arith) (omega arith) in
-    omega (arith, c.in-Some.ensures, c.in-Some-six.ensures)
+    omega (arith, c.in_ok-y.ensures, c.in_ok-z.ensures)
 
-pub returns-in_default-from_u32 : goal.returns-in_default-from_u32
-returns-in_default-from_u32 c y r u =
+pub returns-in_err-c : goal.returns-in_err-c
+returns-in_err-c c = rw c.from_residual-in_err-c.ensures (λ y r u.
     let p = by_three c.args.text.now c.args.at u (omega arith) (omega arith) in
-    let a = c.in-Some.ensures in
-    let b = c.in-Some-six.ensures in
-    ⊎_elim (λ s. ⊎_elim (λ t. omega arith) (λ t. omega arith) p.5) (λ s. omega arith) c.in_default-from_u32.ensures.cases
+    let a = c.in_ok-y.ensures in
+    let b = c.in_ok-z.ensures in
+    ⊎_elim (λ s. ⊎_elim (λ t. omega arith) (λ t. omega arith) p.5) (λ s. omega arith) c.in_err-c.ensures.cases)
 
 pub returns : goal.returns
 returns c =
-    let y = c.in-Some.ensures in
-    let z = c.in-Some-six.ensures in
-    let k = c.in-Some-from_u32.ensures.value in
-    utf8_three c.args.text.now c.args.at c.in-Some.y y.1 y.2 c.in-Some-six.z z.1 z.2 c.in-Some-from_u32.c
-    (omega arith) (omega arith) (omega arith) k.1 (omega arith) (rw k.1 k.0)
+    let y = c.in_ok-y.ensures in
+    let z = c.in_ok-z.ensures in
+    let k = c.in_ok-c.ensures.value in
+    utf8_three c.args.text.now c.args.at c.in_ok-y.y y.1 y.2 c.in_ok-z.z z.1 z.2 c.in_ok-c.c
+    (omega arith) (omega arith) (omega arith) (omega arith) (omega arith) (rw k.1 k.0)

@@ -1,32 +1,28 @@
-use Rattle.std.proofs.Common.{◌-◌, ◌<◌, ◌≤◌, ap, arith, rules}
+use Rattle.std.proofs.Common.{◌-◌, ◌<◌, ◌≤◌, ap, arith}
 use Rattle.source.specs.declared.nodes.Node.{Node}
+use Rattle.source.specs.Nodes.{node_at}
 use Rattle.source.specs.Table.{tree_table}
-use Rattle.source.proofs.Standings.{none_items, none_members, some_items, some_members}
+use Rattle.source.proofs.Standings.{none_items, none_members}
 use Rattle.source.proofs.tree.Tree.next.Goals as goal
+use Rattle.source.proofs.tree.Tree.next.Goals.{Joined-then-size-eq0, then-size-eq0-via-then-size-eq0, then-size-eq0-via-else-size-eq0+then-size-to}
 
-pub returns-then-from-to : goal.returns-then-from-to
-returns-then-from-to c = record {
-  taken = tt;
-  item = λ xs h. none_items (tree_table c.args.self.now) c.args.span xs h (λ a b d. omega arith);
-  field = λ ms h. none_members (tree_table c.args.self.now) c.args.span ms h (λ a b d. omega arith);
-}
+pub returns-then-from-to-clause-item : goal.returns-then-from-to-clause-item
+returns-then-from-to-clause-item c xs h = none_items (tree_table c.args.self.now) c.args.span xs h (λ a b d. omega arith)
 
-pub returns-then-size-eq0 : goal.returns-then-size-eq0
-returns-then-size-eq0 c =
+pub returns-then-from-to-clause-field : goal.returns-then-from-to-clause-field
+returns-then-from-to-clause-field c ms h = none_members (tree_table c.args.self.now) c.args.span ms h (λ a b d. omega arith)
+
+-- the node at the span's start ends past the span, or is not there
+unfit : (c : Joined-then-size-eq0) → let size = (node_at (tree_table c.args.self.now).nodes c.args.span.from).size in c.args.span.from < c.args.span.to → 0 < size → size ≤ c.args.span.to - c.args.span.from → ⊥
+unfit c a b d =
     let e = ap (λ (n : Node). n.size) c.get-size.ensures in
-    let T = tree_table c.args.self.now in
-    let n : c.args.span.from < c.args.span.to → 0 < c.get-size.result.size → c.get-size.result.size ≤ c.args.span.to - c.args.span.from → ⊥ = λ a b d. elim c.then-size-eq0.branch [ goal.then-size-eq0-via-then-size-eq0 w ↦ omega (arith, w.if-size-eq0.true) | goal.then-size-eq0-via-else-size-eq0+then-size-to w ↦ omega (arith, w.if-size-to.true) ] in
-    record {
-      taken = tt;
-      item = λ xs h. none_items T c.args.span xs h (λ a b d. n a (omega (arith, e)) (omega (arith, e)));
-      field = λ ms h. none_members T c.args.span ms h (λ a b d. n a (omega (arith, e)) (omega (arith, e)));
-    }
+    elim c.then-size-eq0.branch [
+      | then-size-eq0-via-then-size-eq0 w ↦ omega (arith, w.if-size-eq0.true, e)
+      | then-size-eq0-via-else-size-eq0+then-size-to w ↦ omega (arith, w.if-size-to.true, e)
+    ]
 
-pub returns : goal.returns
-returns c =
-    let e = ap (λ (n : Node). n.size) c.get-size.ensures in
-    record {
-      taken = search rules;
-      item = λ xs h. some_items (tree_table c.args.self.now) c.args.span xs _ h (omega arith) e;
-      field = λ ms h. some_members (tree_table c.args.self.now) c.args.span ms _ h (omega arith) e;
-    }
+pub returns-then-size-eq0-clause-item : goal.returns-then-size-eq0-clause-item
+returns-then-size-eq0-clause-item c xs h = none_items (tree_table c.args.self.now) c.args.span xs h (unfit c)
+
+pub returns-then-size-eq0-clause-field : goal.returns-then-size-eq0-clause-field
+returns-then-size-eq0-clause-field c ms h = none_members (tree_table c.args.self.now) c.args.span ms h (unfit c)

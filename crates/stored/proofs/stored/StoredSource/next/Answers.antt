@@ -1,43 +1,18 @@
-use Rattle.std.proofs.Common.{arith}
-use Rattle.stored.proofs.CuSpans.{items_none, items_next, items_unnamed, members_none, members_named, members_valued, members_next}
-use Rattle.stored.proofs.PaLaws.{taken_item, taken_member}
+use Rattle.stored.proofs.CuSpans.{items_valueless, items_first, members_valueless, members_first}
+use Rattle.stored.proofs.PaLaws.{taken_valued}
 use Rattle.stored.proofs.stored.StoredSource.next.Goals as goal
 
-pub returns-in_default : goal.returns-in_default
-returns-in_default c = record {
-  taken = tt;
-  shrinks = tt;
-  item = λ xs h. items_none c.args.self.now.bytes.now c.args.span xs c.in_default.ensures h;
-  field = λ ms h. members_none c.args.self.now.bytes.now c.args.span ms c.in_default.ensures h;
-}
+pub returns-in_err-frame-clause-item : goal.returns-in_err-frame-clause-item
+returns-in_err-frame-clause-item c xs h = rw c.from_residual.ensures (items_valueless c.args.self.now.bytes.now c.args.span xs c.in_err-frame.ensures h)
 
-pub returns-then-first-ne-NAME : goal.returns-then-first-ne-NAME
-returns-then-first-ne-NAME c =
-    let a = c.in-Some.ensures in
-    record {
-      taken = taken_item c.args.span a c.if-first-ne-NAME.true;
-      shrinks = omega (arith, a.starts, a.forward, a.within);
-      item = λ xs h. items_next c.args.self.now.bytes.now c.args.span xs c.in-Some.first a h;
-      field = λ ms h. absurd (members_named c.args.self.now.bytes.now c.args.span ms c.in-Some.first a c.if-first-ne-NAME.true h);
-    }
+pub returns-in_err-frame-clause-field : goal.returns-in_err-frame-clause-field
+returns-in_err-frame-clause-field c ms h = rw c.from_residual.ensures (members_valueless c.args.self.now.bytes.now c.args.span ms c.in_err-frame.ensures h)
 
-pub returns-in_default-header : goal.returns-in_default-header
-returns-in_default-header c =
-    let a = c.in-Some.ensures in
-    record {
-      taken = tt;
-      shrinks = tt;
-      item = λ xs h. absurd (items_unnamed c.args.self.now.bytes.now c.args.span xs c.in-Some.first a c.if-first-ne-NAME.false h);
-      field = λ ms h. absurd (members_valued c.args.self.now.bytes.now c.args.span ms c.in-Some.first a c.in_default-header.ensures h);
-    }
+pub returns-clause-taken : goal.returns-clause-taken
+returns-clause-taken c = taken_valued c.args.span c.in_ok-frame.ensures
 
-pub returns : goal.returns
-returns c =
-    let a = c.in-Some.ensures in
-    let b = c.in-Some-header.ensures in
-    record {
-      taken = taken_member c.args.span a c.if-first-ne-NAME.false b;
-      shrinks = omega (arith, a.starts, a.forward, b.starts, b.forward, b.within);
-      item = λ xs h. absurd (items_unnamed c.args.self.now.bytes.now c.args.span xs c.in-Some.first a c.if-first-ne-NAME.false h);
-      field = λ ms h. members_next c.args.self.now.bytes.now c.args.span ms c.in-Some.first c.in-Some-header.second a b h;
-    }
+pub returns-clause-item : goal.returns-clause-item
+returns-clause-item c xs h = items_first c.args.self.now.bytes.now c.args.span xs c.in_ok-frame.frame c.in_ok-frame.ensures h
+
+pub returns-clause-field : goal.returns-clause-field
+returns-clause-field c ms h = members_first c.args.self.now.bytes.now c.args.span ms c.in_ok-frame.frame c.in_ok-frame.ensures h

@@ -1,11 +1,6 @@
-use Rattle.std.proofs.Common.{subst}
 use Rattle.source.specs.Standing.{Scaled}
-use Rattle.stored.specs.Cursors.{OfRecord}
-use Rattle.stored.proofs.CuAsks.{held_of}
+use Rattle.stored.proofs.CuAsks.{asked}
 use Rattle.stored.proofs.stored.StoredSource.scale.Goals as goal
 
 pub returns : goal.returns
-returns c t h =
-    let p = c.follow-target.ensures.points h.place h.from h.value h.leads in
-    held_of (λ u. Scaled u c.scale_for.result) c.args.self.now.bytes.now c.args.at t c.follow-target.result h p
-    (subst (OfRecord (λ u. Scaled u c.scale_for.result) c.follow-target.result.kind) c.body.ensures c.scale_for.ensures)
+returns c t h = asked (λ u. Scaled u c.map_or.result) c.follow.result _ _ h c.follow.ensures c.map_or.ensures (λ x p. p)

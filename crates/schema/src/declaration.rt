@@ -1,0 +1,46 @@
+// What follows the name of a variable or of a field: its type, and its default if any.
+ghost use Rattle.std.specs.Prelude.{◌≡◌, ◌≤◌, IfOk, IfSome, vec_len};
+ghost use Rattle.schema.specs.Reading.{Onward};
+
+use crate::tokens::Tokens;
+use crate::types;
+use crate::types::Type;
+use source::nodes::Nodes;
+use text::fault::Fault;
+use text::token::Token;
+
+// A default is at this depth, what is in it deeper.
+const DEFAULT_DEPTH: usize = 1;
+
+#[derive(Clone, Copy)]
+pub struct Declaration<'a> {
+    pub ty: Type<'a, ()>,
+    // The cursor of the default among the nodes.
+    pub default: Option<usize>,
+}
+
+// The type after a colon, and the default after it.
+pub fn declared<'a>(tokens: &mut Tokens<'a>, nodes: &mut Nodes) -> Result<Declaration<'a>, Fault>
+    ensures onward { IfOk result (λ d. Onward 1 tokens.old tokens.new) }
+    ensures levels { IfOk result (λ d. d.ty.shape.levels ≤ 8) }
+    ensures default { IfOk result (λ d. IfSome d.default (λ root. root ≡ vec_len nodes.old.list)) }
+{
+    tokens.expect(|token| matches!(token, Token::Colon))?;
+    let ty = types::read_type(tokens)?;
+    let default = default_value(tokens, nodes)?;
+    Ok(Declaration { ty, default })
+}
+
+// The default that comes next, if there is one.
+fn default_value(tokens: &mut Tokens<'_>, nodes: &mut Nodes) -> Result<Option<usize>, Fault>
+    ensures onward { IfOk result (λ _. Onward 0 tokens.old tokens.new) }
+    ensures default { IfOk result (λ default. IfSome default (λ root. root ≡ vec_len nodes.old.list)) }
+{
+    let equals = tokens.eat(|token| matches!(token, Token::Equals))?;
+    if equals.is_none() {
+        return Ok(None);
+    }
+    let root = nodes.list.len();
+    tokens.literal(DEFAULT_DEPTH, nodes)?;
+    Ok(Some(root))
+}

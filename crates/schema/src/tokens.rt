@@ -1,0 +1,125 @@
+// Reading the tokens of a text one after the other.
+ghost use Rattle.std.specs.Prelude.{◌≡◌, ◌<◌, ◌≤◌, ◌+◌, length, Ok, Err, IfOk, MatchResult, IsOkAnd, is_ok};
+ghost use Rattle.text.specs.Places.{Placed, is_end};
+ghost use Rattle.text.specs.TokenFound.{TokenTold};
+ghost use Rattle.text.specs.declared.fault.Fault.TheVariants.{BadText};
+ghost use Rattle.text.specs.declared.language.Language.TheVariants.{Graphql};
+
+use lookup::Named;
+use reader::literal;
+use source::limits::LONGEST_TEXT;
+use source::nodes::Nodes;
+use text::fault::Fault;
+use text::graphql;
+use text::token::{Lexeme, Token};
+
+// A name, and its offset in the text.
+#[derive(Clone, Copy)]
+pub struct Name<'a> {
+    pub name: &'a [u8],
+    pub place: usize,
+}
+
+impl Named for Name<'_> {
+    ghost called = { λ n. n.name.now };
+
+    fn name(&self) -> &[u8] {
+        self.name
+    }
+}
+
+// What is still to be read of a text.
+#[derive(Drop)]
+pub struct Tokens<'a> {
+    pub text: &'a [u8],
+    pub at: usize,
+    ghost inside: { at ≤ length text.now },
+}
+
+impl<'a> Tokens<'a> {
+    ghost use Rattle.schema.specs.Reading.{Onward, NameTold, ExpectTold, EatTold, past};
+
+    // The whole text, unless it is too long.
+    pub fn new(text: &'a [u8]) -> Result<Tokens<'a>, Fault>
+        ensures long { 65535 < length text.now → result ≡ Err (BadText 0) }
+        ensures whole { length text.now ≤ 65535 → IsOkAnd result (λ t. (t.text.now ≡ text.now) × (t.at ≡ 0)) }
+    {
+        if text.len() > LONGEST_TEXT {
+            return Err(Fault::BadText(0));
+        }
+        Ok(Tokens { text, at: 0 })
+    }
+
+    // The next token, which is left.
+    pub fn peek(&self) -> Result<Lexeme<'a>, Fault>
+        ensures told { TokenTold Graphql self.now.text.now self.now.at result }
+        ensures placed { IfOk result (λ l. Placed (length self.now.text.now) self.now.at l.start l.end (is_end l.token)) }
+    {
+        graphql::token(self.text, self.at)
+    }
+
+    // The next token, which is passed.
+    pub fn next(&mut self) -> Result<Lexeme<'a>, Fault>
+        ensures told { TokenTold Graphql self.old.text.now self.old.at result }
+        ensures placed { IfOk result (λ l. Placed (length self.old.text.now) self.old.at l.start l.end (is_end l.token)) }
+        ensures text { self.new.text.now ≡ self.old.text.now }
+        ensures at { self.new.at ≡ past self.old.at (is_ok result) result }
+    {
+        let lexeme = self.peek()?;
+        self.at = lexeme.end;
+        Ok(lexeme)
+    }
+
+    // The next token, which is to be a name.
+    pub fn name(&mut self) -> Result<Name<'a>, Fault>
+        ensures told { NameTold self.old self.new result }
+        ensures onward { IfOk result (λ _. Onward 1 self.old self.new) }
+    {
+        let lexeme = self.peek()?;
+        let Token::Name(name) = lexeme.token else {
+            return Err(Fault::BadText(lexeme.start));
+        };
+        self.at = lexeme.end;
+        Ok(Name {
+            name,
+            place: lexeme.start,
+        })
+    }
+
+    // Passes the next token, of which the test is to hold.
+    pub fn expect<F: FnOnce(Token<'a>) -> bool>(&mut self, wanted: F) -> Result<(), Fault>
+        requires { F.IsAlwaysCallable wanted }
+        ensures told { ExpectTold (F.post wanted) self.old self.new result }
+        ensures onward { IfOk result (λ _. Onward 0 self.old self.new) }
+    {
+        let lexeme = self.peek()?;
+        if !wanted(lexeme.token) {
+            return Err(Fault::BadText(lexeme.start));
+        }
+        self.at = lexeme.end;
+        Ok(())
+    }
+
+    // Passes the next token if the test holds of it, and says where it began.
+    pub fn eat<F: FnOnce(Token<'a>) -> bool>(&mut self, wanted: F) -> Result<Option<usize>, Fault>
+        requires { F.IsAlwaysCallable wanted }
+        ensures told { EatTold (F.post wanted) self.old self.new result }
+        ensures onward { IfOk result (λ _. Onward 0 self.old self.new) }
+    {
+        let lexeme = self.peek()?;
+        if wanted(lexeme.token) {
+            self.at = lexeme.end;
+            Ok(Some(lexeme.start))
+        } else {
+            Ok(None)
+        }
+    }
+
+    // Adds the nodes of the literal that comes next, a value at that depth.
+    pub(crate) fn literal(&mut self, depth: usize, nodes: &mut Nodes) -> Result<(), Fault>
+        ensures { IfOk result (λ _. Onward 1 self.old self.new) }
+    {
+        self.at = literal::literal_at(self.text, self.at, depth, nodes)?;
+        Ok(())
+    }
+}

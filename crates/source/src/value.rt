@@ -1,0 +1,137 @@
+// The values of trees, as sources.
+ghost use Rattle.std.specs.Prelude.{◌≡◌};
+ghost use Rattle.text.specs.declared.language.Language.{Language};
+ghost use Rattle.text.specs.declared.language.Language.TheVariants.{Json as JsonLanguage, Graphql as GraphqlLanguage};
+ghost use Rattle.source.specs.declared.raw.Form.{Form};
+ghost use Rattle.source.specs.declared.raw.Form.TheVariants.{Json as JsonForm, Literal as LiteralForm};
+ghost use Rattle.source.specs.Table.{past_of, tree_table, Held, HeldAll, HeldMems, Named};
+ghost use Rattle.source.specs.OneTree.{lawful};
+
+use crate::raw::{Form, Kind, Source, Span};
+use crate::tree::Tree;
+use std::marker::PhantomData;
+use text::decimal::Scale;
+use text::language::Language;
+
+// The language that a text is written in.
+pub trait Written {
+    const FORM: Form;
+
+    const LANGUAGE: Language;
+
+    ghost FORM: { Form };
+
+    ghost LANGUAGE: { Language };
+}
+
+// JSON.
+#[derive(Clone, Copy)]
+pub struct Json;
+
+impl Written for Json {
+    const FORM: Form = Form::Json;
+
+    const LANGUAGE: Language = Language::Json;
+
+    ghost FORM = { JsonForm };
+
+    ghost LANGUAGE = { JsonLanguage };
+}
+
+// GraphQL.
+#[derive(Clone, Copy)]
+pub struct Graphql;
+
+impl Written for Graphql {
+    const FORM: Form = Form::Literal;
+
+    const LANGUAGE: Language = Language::Graphql;
+
+    ghost FORM = { LiteralForm };
+
+    ghost LANGUAGE = { GraphqlLanguage };
+}
+
+// A value of a tree that was read from a text in W.
+#[derive_where(Clone, Copy)]
+pub struct Value<'t, 'a, W> {
+    tree: &'t Tree<'a>,
+    root: usize,
+    written: PhantomData<W>,
+}
+
+pub type Literal<'t, 'a> = Value<'t, 'a, Graphql>;
+
+impl<'t, 'a, W> Value<'t, 'a, W> {
+    // The value whose node stands at the cursor.
+    pub fn new(tree: &'t Tree<'a>, root: usize) -> Value<'t, 'a, W>
+        ensures tree { result.tree.now ≡ tree.now }
+        ensures root { result.root ≡ root }
+    {
+        Value {
+            tree,
+            root,
+            written: PhantomData,
+        }
+    }
+}
+
+impl<W: Written> Source for Value<'_, '_, W> {
+    const FORM: Form = W::FORM;
+
+    ghost form = { W.FORM };
+
+    ghost past = { λ s. past_of s.tree.now.nodes.list.items };
+
+    ghost start = { λ s. s.root };
+
+    ghost stands = { λ s. Held (tree_table s.tree.now) };
+
+    ghost named = { λ s. Named (tree_table s.tree.now) };
+
+    ghost items = { λ s. HeldAll (tree_table s.tree.now) };
+
+    ghost members = { λ s. HeldMems (tree_table s.tree.now) };
+
+    ghost laws = { lawful (λ s. tree_table s.tree.now) };
+
+    fn written(&self) -> Form {
+        W::FORM
+    }
+
+    fn root(&self) -> usize {
+        self.root
+    }
+
+    fn kind(&self, at: usize) -> Kind {
+        self.tree.kind(at)
+    }
+
+    fn place(&self, at: usize) -> usize {
+        self.tree.place(at)
+    }
+
+    fn boolean(&self, at: usize) -> bool {
+        self.tree.boolean(at)
+    }
+
+    fn text(&self, at: usize) -> &[u8] {
+        self.tree.text(at)
+    }
+
+    fn scale(&self, at: usize) -> Scale {
+        self.tree.scale(at)
+    }
+
+    fn inside(&self, at: usize) -> Span {
+        self.tree.inside(at)
+    }
+
+    fn next(&self, span: Span) -> Option<(usize, Span)> {
+        self.tree.next(span)
+    }
+
+    fn name(&self, at: usize) -> &[u8] {
+        self.tree.name(at)
+    }
+}
