@@ -36,10 +36,7 @@ impl Node {
         kind: Kind::Null,
         place: 0,
         flag: false,
-        scale: Scale {
-            negative: false,
-            exponent: 0,
-        },
+        scale: Scale::ZERO,
         name: Part::EMPTY,
         text: Part::EMPTY,
         size: 0,

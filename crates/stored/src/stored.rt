@@ -94,16 +94,10 @@ impl<'a> Target<'a> {
                 negative: *sign == 1,
                 exponent: i32::from_le_bytes([*a, *b, *c, *d]),
             },
-            _ => ZERO,
+            _ => Scale::ZERO,
         }
     }
 }
-
-// The sign and the exponent of what is no decimal.
-const ZERO: Scale = Scale {
-    negative: false,
-    exponent: 0,
-};
 
 impl<'a> Stored<'a> {
     // The record of the value at the cursor.
@@ -168,7 +162,7 @@ impl Source for Stored<'_> {
     }
 
     fn scale(&self, at: usize) -> Scale {
-        self.follow(at).map_or(ZERO, Target::scale)
+        self.follow(at).map_or(Scale::ZERO, Target::scale)
     }
 
     fn inside(&self, at: usize) -> Span {

@@ -16,11 +16,13 @@ pub struct Scale {
     pub exponent: i32,
 }
 
-// The sign and the exponent of zero, whose digit is `0`.
-const ZERO: Scale = Scale {
-    negative: false,
-    exponent: 0,
-};
+impl Scale {
+    // Of zero, whose digit is `0`.
+    pub const ZERO: Scale = Scale {
+        negative: false,
+        exponent: 0,
+    };
+}
 
 // Where the parts of a number stand: its integer from `start` to `point`, the digits of its fraction from `places` to `mark`, and then its exponent.
 #[derive(Clone, Copy)]
@@ -173,7 +175,7 @@ pub fn normal(text: &[u8], out: &mut Vec<u8>) -> Result<Scale, Fault>
     out.truncate(end);
     if end == base {
         out.push(b'0')?;
-        return Ok(ZERO);
+        return Ok(Scale::ZERO);
     }
     Ok(Scale {
         negative,
@@ -198,13 +200,13 @@ pub fn of_whole(text: &[u8]) -> (Scale, &[u8])
     ensures { OfWhole text.now result.0 result.1.now }
 {
     if text.len() > LONGEST_NUMBER {
-        return (ZERO, text);
+        return (Scale::ZERO, text);
     }
     let negative = minus(text);
     let start = begin(negative);
     let end = trimmed(text, start);
     if end == start {
-        return (ZERO, &text[start..]);
+        return (Scale::ZERO, &text[start..]);
     }
     let exponent = (text.len() - end) as i32;
     (Scale { negative, exponent }, &text[start..end])
