@@ -1,6 +1,7 @@
 // Characters, and the strings of JSON and GraphQL.
 ghost use Rattle.std.specs.Prelude.{◌<◌, ◌≤◌, length, MatchBool, slice_index};
 ghost use Rattle.text.specs.StringGrammar.{Utf8Char, Code, Escape, Unescaped, Char};
+ghost use Rattle.text.specs.TokenGrammar.{CommentCode};
 ghost use Rattle.text.specs.StringDecode.{Told, SixTold, HexTold, Hex4Told, LowTold, PutTold, AddTold, DecodeTold, ScanTold};
 
 use crate::fault::Fault;
@@ -146,15 +147,21 @@ fn escape(text: &[u8], at: usize) -> Option<(char, usize)>
     }
 }
 
+// Whether a character of GraphQL's source can stand within a line.
+pub(crate) fn within_line(c: char) -> bool
+    ensures { MatchBool result (CommentCode c) (CommentCode c → ⊥) }
+{
+    matches!(c, '\t' | ' '..='\u{FFFF}')
+}
+
 // Whether a character stands in a string as it is.
 fn unescaped(c: char, language: Language) -> bool
     ensures { MatchBool result (Unescaped language c) (Unescaped language c → ⊥) }
 {
     match (language, c) {
         (_, '"' | '\\') => false,
-        (Language::Json, ' '..) => true,
-        (Language::Graphql, '\t' | ' '..='\u{FFFF}') => true,
-        _ => false,
+        (Language::Json, _) => c >= ' ',
+        (Language::Graphql, _) => within_line(c),
     }
 }
 
