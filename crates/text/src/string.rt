@@ -105,10 +105,7 @@ fn low_surrogate(text: &[u8], at: usize) -> Option<u32>
         return None;
     }
     let low = hex4(text, at + 2)?;
-    if low < FIRST_LOW || low > LAST_LOW {
-        return None;
-    }
-    Some(low)
+    (FIRST_LOW..=LAST_LOW).contains(&low).then_some(low)
 }
 
 // The character whose digits follow `\u` at `at`, and where it ends.
