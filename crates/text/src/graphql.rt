@@ -149,21 +149,6 @@ fn quoted(text: &[u8], start: usize) -> Result<Lexeme<'_>, Fault>
     token::quoted(text, start, Language::Graphql)
 }
 
-// The three points that begin at `start`.
-fn spread(text: &[u8], start: usize) -> Result<Lexeme<'_>, Fault>
-    requires { (start < length text.now) × (slice_index text.now start ≡ 46) }
-    ensures { FoundHere Graphql text.now start result }
-{
-    if !text[start..].starts_with(b"...") {
-        return Err(Fault::BadText(start));
-    }
-    Ok(Lexeme {
-        token: Token::Spread,
-        start,
-        end: start + 3,
-    })
-}
-
 // The punctuator that a byte is.
 fn punctuator<'a>(byte: u8) -> Option<Token<'a>>
     ensures { MarkTold Punctuator byte result }
@@ -205,7 +190,7 @@ fn token_at(text: &[u8], start: usize) -> Result<Lexeme<'_>, Fault>
     }
     match byte {
         b'"' => quoted(text, start),
-        b'.' => spread(text, start),
+        b'.' => token::spelled(text, start, b"...", Token::Spread),
         _ => Err(Fault::BadText(start)),
     }
 }
