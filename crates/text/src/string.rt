@@ -41,11 +41,8 @@ fn three(text: &[u8], at: usize) -> Option<(char, usize)>
     let y = six(text, at + 1)?;
     let z = six(text, at + 2)?;
     let code = u32::from(text[at] - 0xE0) * 0x1000 + y * 0x40 + z;
-    if code < 0x800 {
-        return None;
-    }
     let c = char::from_u32(code)?;
-    Some((c, at + 3))
+    (c >= '\u{800}').then_some((c, at + 3))
 }
 
 // The character of four bytes at `at`, and where it ends.
@@ -57,11 +54,8 @@ fn four(text: &[u8], at: usize) -> Option<(char, usize)>
     let z = six(text, at + 2)?;
     let w = six(text, at + 3)?;
     let code = u32::from(text[at] - 0xF0) * 0x40000 + y * 0x1000 + z * 0x40 + w;
-    if code < 0x10000 {
-        return None;
-    }
     let c = char::from_u32(code)?;
-    Some((c, at + 4))
+    (c >= '\u{10000}').then_some((c, at + 4))
 }
 
 // The UTF-8 character at `at`, and where it ends.
