@@ -1,10 +1,12 @@
 -- Four hexadecimal digits, and a low surrogate.
-use Rattle.std.proofs.Common.{◌≡◌, ℕ, ◌+◌, ◌*◌, ◌<◌, ◌≤◌, List, ◌∷◌, length, get_or, drop, sym, refl, ap, ◌∙◌, subst, arith, length-drop}
+use Rattle.std.proofs.Common.{◌≡◌, ℕ, ◌+◌, ◌*◌, ◌<◌, ◌≤◌, Bool, true, false, List, ◌∷◌, length, get_or, drop, sym, refl, ap, ◌∙◌, subst, arith, length-drop}
 use Rattle.std.specs.Char.{digit_value}
-use Rattle.std.specs.Int.{IsInRange}
+use Rattle.std.specs.Bool.{then_some}
+use Rattle.std.specs.Int.{IsInRange, is_in_range}
 use Rattle.text.specs.StringGrammar.{Hex4, hex4, Low, low}
-use Rattle.text.specs.StringDecode.{Exactly, Nothing}
+use Rattle.text.specs.StringDecode.{Exactly, Nothing, LowTold}
 use Rattle.text.proofs.StrUtf8.{drop_more}
+use Rattle.std.proofs.lemmas.Bool.Decides.{nat_tests}
 use Rattle.std.proofs.lemmas.List.{drop-drop, take_rest}
 use Rattle.text.specs.Cuts.{part}
 
@@ -86,3 +88,8 @@ module _ (text : List ℕ) (at : ℕ) (e : drop at text ≡ 92 ∷ 117 ∷ drop 
         reads = s;
         only = λ y r z. low_same s z;
       }
+
+  -- four digits, kept where they are those of a low surrogate
+  pub low_kept : (u : ℕ) (b : Bool) → b ≡ is_in_range 56320 57343 u → Exactly Hex4 text (at + 2) u (at + 2 + 4) → LowTold text at (then_some b u)
+  low_kept u true e x = let i : IsInRange 56320 57343 u = (grind (arith, nat_tests), grind (arith, nat_tests)) in (low_stands x i, i)
+  low_kept u false e x = λ y r l. let p = by_low l in let s = x.only y r p.0 in grind (arith, nat_tests)

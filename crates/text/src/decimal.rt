@@ -77,9 +77,9 @@ fn power(text: &[u8], at: usize) -> Option<i32>
     if at >= text.len() {
         return Some(0);
     }
-    let (less, from) = lead(text, at + 1);
+    let (negative, from) = lead(text, at + 1);
     let size = size(&text[from..])? as i32;
-    Some(if less { -size } else { size })
+    Some(if negative { -size } else { size })
 }
 
 // Adds digits after those from `base` on, and no zero before the first other digit.
@@ -108,18 +108,13 @@ fn trimmed(digits: &[u8], from: usize) -> usize
     from + rest.len()
 }
 
-// Whether the number has a minus.
-fn minus(text: &[u8]) -> bool
-    ensures { Signs text.now result }
+// Whether the number has a minus, and where its digits begin.
+fn sign(text: &[u8]) -> (bool, usize)
+    ensures minus { Signs text.now result.0 }
+    ensures start { result.1 ≡ start_of result.0 }
 {
-    text.starts_with(b"-")
-}
-
-// Where the digits begin.
-fn begin(negative: bool) -> usize
-    ensures { result ≡ start_of negative }
-{
-    usize::from(negative)
+    let negative = text.starts_with(b"-");
+    (negative, usize::from(negative))
 }
 
 // Where the parts of the number stand that begins at `start`, after its minus if any.
@@ -158,13 +153,13 @@ pub fn normal(text: &[u8], out: &mut Vec<u8>) -> Result<Scale, Fault>
     if text.len() > LONGEST_NUMBER {
         return Err(Fault::LongNumber(0));
     }
-    let negative = minus(text);
+    let (negative, from) = sign(text);
     let Parts {
         start,
         point,
         places,
         mark,
-    } = locate(text, begin(negative));
+    } = locate(text, from);
     let power = power(text, mark).ok_or(Fault::LongNumber(0))?;
     let base = out.len();
     out.reserve(mark - start)?;
@@ -202,8 +197,7 @@ pub fn of_whole(text: &[u8]) -> (Scale, &[u8])
     if text.len() > LONGEST_NUMBER {
         return (Scale::ZERO, text);
     }
-    let negative = minus(text);
-    let start = begin(negative);
+    let (negative, start) = sign(text);
     let end = trimmed(text, start);
     if end == start {
         return (Scale::ZERO, &text[start..]);
