@@ -3,7 +3,7 @@ ghost use Rattle.std.specs.Prelude.{◌≡◌, ℕ, ◌≤◌, length};
 ghost use Rattle.record.specs.Kinds.{number_of};
 ghost use Rattle.model.specs.Values.{Rec, Mems};
 ghost use Rattle.model.specs.Coercion.{member as member_of};
-ghost use Rattle.source.specs.declared.raw.Form.TheVariants.{Json as JsonForm};
+ghost use Rattle.text.specs.declared.language.Language.TheVariants.{Json as JsonLanguage};
 ghost use Rattle.source.specs.Heads.{flag_of, text_of};
 ghost use Rattle.source.specs.Standing.{Found, Scaled};
 ghost use Rattle.stored.specs.Cursors.{Leads, Held, HeldAll, HeldMems, Named, TargetTold, FollowTold, OfRecord, kind_for_lem};
@@ -16,10 +16,14 @@ use crate::reading::Reader;
 use names::names::Names;
 use record::kind::{RecordKind, SCALE};
 use source::limits::DEEPEST;
-use source::raw::{Form, Kind, Source, Span};
+use source::raw::{Kind, Source, Span};
 use std::alloc::Global;
 use text::decimal::Scale;
 use text::fault::Fault;
+use text::language::Language;
+
+// The most bytes of a sheet.
+const LONGEST_SHEET: usize = 65536;
 
 // The bytes of a sheet that were found to be in order.
 #[derive(Clone, Copy)]
@@ -77,7 +81,7 @@ impl<'a> Target<'a> {
     {
         match self.kind {
             RecordKind::Whole | RecordKind::String => self.body,
-            RecordKind::Decimal => self.body.get(SCALE..).unwrap_or(&[]),
+            RecordKind::Decimal => self.body.get(SCALE..).unwrap_or_default(),
             RecordKind::Null
             | RecordKind::Boolean
             | RecordKind::List
@@ -119,9 +123,9 @@ impl<'a> Stored<'a> {
 }
 
 impl Source for Stored<'_> {
-    const FORM: Form = Form::Json;
+    const FORM: Language = Language::Json;
 
-    ghost form = { JsonForm };
+    ghost form = { JsonLanguage };
 
     ghost past = { λ s. past_at s.bytes.now };
 
@@ -137,7 +141,7 @@ impl Source for Stored<'_> {
 
     ghost laws = { lawful (λ s. s.bytes.now) };
 
-    fn written(&self) -> Form {
+    fn written(&self) -> Language {
         Self::FORM
     }
 
@@ -178,7 +182,7 @@ impl Source for Stored<'_> {
                 from,
                 to: from + body.len(),
             },
-            _ => Span { from: 0, to: 0 },
+            _ => Span::EMPTY,
         }
     }
 
@@ -201,9 +205,6 @@ impl Source for Stored<'_> {
         }
     }
 }
-
-// The most bytes of a sheet.
-const LONGEST_SHEET: usize = 65536;
 
 // A sheet's bytes, once they are found to be in order.
 pub fn read_stored(heap: Global, bytes: &[u8]) -> Result<Stored<'_>, Fault>
