@@ -1,5 +1,5 @@
 // A sheet's bytes as a source of raw values in JSON form.
-ghost use Rattle.std.specs.Prelude.{◌≡◌, ℕ, ◌≤◌, length};
+ghost use Rattle.std.specs.Prelude.{◌≡◌, ℕ, length};
 ghost use Rattle.record.specs.Kinds.{number_of};
 ghost use Rattle.model.specs.Values.{Rec, Mems};
 ghost use Rattle.model.specs.Coercion.{member as member_of};
@@ -42,17 +42,15 @@ struct Target<'a> {
 
 impl<'a> Target<'a> {
     // The record at `place`, if its frame has a kind.
-    fn new(bytes: &'a [u8], place: usize, frame: Frame) -> Option<Target<'a>>
-        requires forward { frame.from ≤ frame.end }
-        requires inside { frame.end ≤ length bytes.now }
-        ensures { TargetTold bytes.now place frame result }
+    fn new(place: usize, frame: Frame<'a>) -> Option<Target<'a>>
+        ensures { TargetTold place frame.entry result }
     {
         let kind = RecordKind::try_from(frame.kind).ok()?;
         Some(Target {
             place,
             kind,
             from: frame.from,
-            body: frame.body(bytes),
+            body: frame.body,
         })
     }
 
@@ -118,7 +116,7 @@ impl<'a> Stored<'a> {
             });
         }
         let (place, frame) = valued(bytes, at, bytes.len())?;
-        Target::new(bytes, place, frame)
+        Target::new(place, frame)
     }
 }
 
@@ -200,7 +198,7 @@ impl Source for Stored<'_> {
 
     fn name(&self, at: usize) -> &[u8] {
         match header(self.bytes, at, self.bytes.len()) {
-            Some(frame) => frame.body(self.bytes),
+            Some(frame) => frame.body,
             None => &[],
         }
     }
