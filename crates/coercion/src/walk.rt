@@ -11,9 +11,10 @@ use record::working::Working;
 use schema::definition::Schema;
 use schema::scalars;
 use schema::types::{Base, Shape, Type};
-use source::raw::{Form, Kind, Source};
+use source::raw::{Kind, Source};
 use text::decimal;
 use text::decimal::Scale;
+use text::language::Language;
 
 // What stays the same throughout a walk.
 #[derive_where(Clone, Copy)]
@@ -104,7 +105,7 @@ impl<'w, S: Source, R: ScalarRule> Walk<'w, '_, '_, '_, S, R> {
             _ => return None,
         };
         let fits = match (kind, S::FORM) {
-            (Kind::Whole, Form::Json) => scalars::safe_integer(text),
+            (Kind::Whole, Language::Json) => scalars::safe_integer(text),
             _ => scalars::finite(digits, scale.exponent),
         };
         fits.then_some(decimal_body(scale, digits))

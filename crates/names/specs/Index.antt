@@ -33,7 +33,7 @@ names_of text pool (l ∷ ls) = bytes_of text pool l.name ∷ names_of text pool
 abbrev pub names_from : (text pool : List ℕ) → List Link → ℕ → List (List ℕ)
 names_from text pool links base = names_of text pool (drop base links)
 
--- c is the child of the link at `at` on a side: a child comes after its parent, and any other number stands for none
+-- c is the child of the link at `at` on a side: a child comes after its parent and before the end; any other counts as none
 pub record Child (links : List Link) (at : ℕ) (side : Bool) (c : ℕ) : Type 0 where
   pub is : child_of (slice_index_or links at blank) side ≡ Some c
   pub after : at < c

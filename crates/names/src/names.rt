@@ -106,6 +106,7 @@ impl Names {
                 return None;
             }
             let high = bit(hash, name, level);
+            // Closing an object cuts links off: a child that does not come after this link, before the end, is none.
             match link.child(high) {
                 Some(next) if next > at && next < self.links.len() => at = next,
                 _ => return Some((at, high)),
