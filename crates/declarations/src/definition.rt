@@ -24,6 +24,18 @@ pub enum TypeKind {
     Output,
 }
 
+impl TypeKind {
+    // What the name of a type of this kind stands for.
+    fn base(self, index: usize) -> Base {
+        match self {
+            TypeKind::Scalar => Base::Custom(index),
+            TypeKind::Enum => Base::Enum(index),
+            TypeKind::Input => Base::Input(index),
+            TypeKind::Output => Base::Output,
+        }
+    }
+}
+
 #[derive(Clone, Copy)]
 pub struct TypeDef<'a> {
     pub name: &'a [u8],
@@ -81,18 +93,15 @@ pub fn between<R>(records: &[R], from: usize, to: usize) -> &[R] {
 
 // What a type's name stands for, where these types are declared.
 pub(crate) fn base_among(types: &[TypeDef<'_>], name: &[u8]) -> Base {
-    if let Some(base) = built_in(name) {
-        return base;
-    }
-    let Some(index) = Table::new(types).find(name) else {
-        return Base::Unknown;
-    };
-    match types[index].kind {
-        TypeKind::Scalar => Base::Custom(index),
-        TypeKind::Enum => Base::Enum(index),
-        TypeKind::Input => Base::Input(index),
-        TypeKind::Output => Base::Output,
-    }
+    built_in(name)
+        .or_else(|| declared(types, name))
+        .unwrap_or(Base::Unknown)
+}
+
+// What the name stands for among the declared types.
+fn declared(types: &[TypeDef<'_>], name: &[u8]) -> Option<Base> {
+    let index = Table::new(types).find(name)?;
+    Some(types[index].kind.base(index))
 }
 
 impl<'a> Schema<'a> {
