@@ -8,8 +8,8 @@ use crate::kind::{HEADER, RecordKind};
 
 // Working bytes, of which the first `used` are written. They are cleared on every way out.
 pub struct Working<'a> {
-    bytes: &'a mut [u8],
-    used: usize,
+    pub bytes: &'a mut [u8],
+    pub used: usize,
     ghost inside: { used ≤ length bytes.now },
 }
 
