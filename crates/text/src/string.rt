@@ -78,12 +78,11 @@ fn hex(b: u8) -> Option<u32>
     char::from(b).to_digit(16)
 }
 
-// The value of the four hexadecimal digits at `at`.
-fn hex4(text: &[u8], at: usize) -> Option<u32>
-    requires { at ≤ length text.now }
-    ensures { Hex4Told text.now at result }
+// The value of the first four bytes, if they are hexadecimal digits.
+fn hex4(text: &[u8]) -> Option<u32>
+    ensures { Hex4Told text.now 0 result }
 {
-    let &[a, b, c, d, ..] = &text[at..] else {
+    let &[a, b, c, d, ..] = text else {
         return None;
     };
     let (a, b, c, d) = (hex(a)?, hex(b)?, hex(c)?, hex(d)?);
@@ -95,10 +94,8 @@ fn low_surrogate(text: &[u8], at: usize) -> Option<u32>
     requires { at ≤ length text.now }
     ensures { LowTold text.now at result }
 {
-    if !text[at..].starts_with(b"\\u") {
-        return None;
-    }
-    let low = hex4(text, at + 2)?;
+    let digits = text[at..].strip_prefix(b"\\u")?;
+    let low = hex4(digits)?;
     (FIRST_LOW..=LAST_LOW).contains(&low).then_some(low)
 }
 
@@ -107,7 +104,7 @@ fn unicode(text: &[u8], at: usize) -> Option<(char, usize)>
     requires { at ≤ length text.now }
     ensures { Told Code text.now at result }
 {
-    let high = hex4(text, at)?;
+    let high = hex4(&text[at..])?;
     if let Some(c) = char::from_u32(high) {
         return Some((c, at + 4));
     }
