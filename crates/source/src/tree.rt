@@ -114,10 +114,8 @@ impl<'a> Tree<'a> {
     // Whether the value is a variable or holds one.
     pub fn holds_variable(&self, at: usize) -> bool {
         let size = self.nodes.get(at).size;
-        self.nodes
-            .list
-            .iter()
-            .skip(at)
+        let from = self.nodes.list.get(at..).unwrap_or_default();
+        from.iter()
             .take(size)
             .any(|node| node.kind == Kind::Variable)
     }
