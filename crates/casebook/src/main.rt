@@ -4,14 +4,12 @@
 use anyhow::anyhow;
 use coercion::rule::AcceptAll;
 use sheet::fault::RequestFault;
-use sheet::held::Sheet;
+use sheet::held::{GREATEST_CAPACITY, Sheet};
 use std::alloc::AllocError;
 use std::path::Path;
 use std::{env, fs};
 use validation::fault::MakeFault;
 use validation::{make_operation, make_schema};
-
-const CAPACITY: usize = 65536;
 
 // Why there is no sheet.
 #[derive(Drop)]
@@ -81,7 +79,7 @@ fn sheet(rt: &HostRuntime, folder: &str) -> Result<String, Stop> {
     let text = read(rt, folder, "operation.graphql")?;
     let operation = make_operation(heap, &schema, text.as_slice())?;
     let text = read(rt, folder, "variables.json")?;
-    let mut sheet = Sheet::new(heap, &schema, &operation, AcceptAll, CAPACITY)?;
+    let mut sheet = Sheet::new(heap, &schema, &operation, AcceptAll, GREATEST_CAPACITY)?;
     sheet.load_json(heap, text.as_slice())?;
     Ok(hex::encode(heap, sheet.bytes())?)
 }

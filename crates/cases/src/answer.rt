@@ -7,6 +7,7 @@ use schema::operation::Operation;
 use sheet::fault::RequestFault;
 use sheet::held::Sheet;
 use std::alloc::{AllocError, Global};
+use validation::fault::MakeFault;
 use validation::{make_operation, make_schema};
 
 // Bytes as characters, each as the one of its number.
@@ -54,19 +55,21 @@ fn load(
     Ok(hex::encode(heap, sheet.bytes())?)
 }
 
-// What the case comes to.
-pub fn answer(heap: Global, case: &Case) -> Result<String, AllocError> {
-    let schema = match make_schema(heap, case.schema.as_slice()) {
-        Ok(schema) => schema,
-        Err(fault) => return refusal(heap, fault.number(), fault.layer(), fault.place()),
-    };
-    let operation = match make_operation(heap, &schema, case.operation.as_slice()) {
-        Ok(operation) => operation,
-        Err(fault) => return refusal(heap, fault.number(), fault.layer(), fault.place()),
-    };
-    match load(heap, &schema, &operation, case) {
+// What the request comes to, unless its schema or its operation is refused.
+fn request(heap: Global, case: &Case) -> Result<Result<String, AllocError>, MakeFault> {
+    let schema = make_schema(heap, case.schema.as_slice())?;
+    let operation = make_operation(heap, &schema, case.operation.as_slice())?;
+    Ok(match load(heap, &schema, &operation, case) {
         Ok(digits) if digits.is_empty() => String::from_str(heap, "ok"),
         Ok(digits) => format!(in heap; "ok {digits}"),
         Err(fault) => request_refusal(heap, &operation, fault),
+    })
+}
+
+// What the case comes to.
+pub fn answer(heap: Global, case: &Case) -> Result<String, AllocError> {
+    match request(heap, case) {
+        Ok(said) => said,
+        Err(fault) => refusal(heap, fault.number(), fault.layer(), fault.place()),
     }
 }

@@ -14,18 +14,25 @@ pub enum Rest {
     Members(Span),
 }
 
+// What is in a record, and how it is taken.
+#[derive(Clone, Copy, Default)]
+pub struct Inside {
+    // Of a list or an object, what is still to come.
+    pub rest: Option<Rest>,
+    // The type of that; inside a custom scalar, where everything is kept as it is, there is none.
+    pub shape: Option<Shape>,
+    // The custom scalar that the record is a value of.
+    pub scalar: Option<usize>,
+}
+
 // An open record.
 #[derive(Clone, Copy, Default)]
 pub struct Frame {
-    pub rest: Option<Rest>,
-    // The type of what is in it; inside a custom scalar, where everything is kept as it is, there is none.
-    pub shape: Option<Shape>,
+    pub inside: Inside,
     // Where the record starts in the working bytes.
     pub start: usize,
     // The cursor of the record's raw value.
     pub at: usize,
-    // The custom scalar that the record is a value of.
-    pub scalar: Option<usize>,
 }
 
 // The open records, the innermost last.

@@ -4,16 +4,16 @@ ghost use Rattle.record.specs.Held.{size, Kept};
 ghost use Rattle.coercion.specs.Frames.{Rooted, Stacked, left};
 
 use crate::fault::{Spot, ValueFault};
-use crate::frames::{Frame, Frames, Rest};
+use crate::frames::{Frame, Frames, Inside, Rest};
 use crate::rule::ScalarRule;
 use record::body::Body;
 use record::working::Working;
 use schema::definition::Schema;
 use schema::scalars;
 use schema::types::{Base, Shape, Type};
-use source::raw::{Form, Kind, Source};
+use source::raw::{Kind, Source};
 use text::decimal;
-use text::decimal::Scale;
+use text::language::Language;
 
 // What stays the same throughout a walk.
 #[derive_where(Clone, Copy)]
@@ -31,12 +31,7 @@ pub struct Walk<'w, 'a, 's, 'r, S, R> {
 #[derive(Clone, Copy)]
 struct Opening<'s> {
     body: Body<'s>,
-    // Of a list or an object, what is to come in it.
-    rest: Option<Rest>,
-    // The type of that, unless it is kept as it is.
-    shape: Option<Shape>,
-    // The custom scalar that the record is a value of.
-    scalar: Option<usize>,
+    inside: Inside,
 }
 
 impl<'s> Opening<'s> {
@@ -44,9 +39,7 @@ impl<'s> Opening<'s> {
     fn leaf(body: Body<'s>) -> Opening<'s> {
         Opening {
             body,
-            rest: None,
-            shape: None,
-            scalar: None,
+            inside: Inside::default(),
         }
     }
 
@@ -54,9 +47,11 @@ impl<'s> Opening<'s> {
     fn list(rest: Rest, item: Shape) -> Opening<'s> {
         Opening {
             body: Body::List,
-            rest: Some(rest),
-            shape: Some(item),
-            scalar: None,
+            inside: Inside {
+                rest: Some(rest),
+                shape: Some(item),
+                scalar: None,
+            },
         }
     }
 }
@@ -70,14 +65,6 @@ struct Step<'s> {
     at: usize,
     // Its type, unless it is kept as it is.
     shape: Option<Shape>,
-}
-
-fn decimal_body(scale: Scale, digits: &[u8]) -> Body<'_> {
-    Body::Decimal {
-        negative: scale.negative,
-        exponent: scale.exponent,
-        digits,
-    }
 }
 
 impl<'w, S: Source, R: ScalarRule> Walk<'w, '_, '_, '_, S, R> {
@@ -104,10 +91,10 @@ impl<'w, S: Source, R: ScalarRule> Walk<'w, '_, '_, '_, S, R> {
             _ => return None,
         };
         let fits = match (kind, S::FORM) {
-            (Kind::Whole, Form::Json) => scalars::safe_integer(text),
+            (Kind::Whole, Language::Json) => scalars::safe_integer(text),
             _ => scalars::finite(digits, scale.exponent),
         };
-        fits.then_some(decimal_body(scale, digits))
+        fits.then_some(Body::Decimal { scale, digits })
     }
 
     // The body of the record of a value at a built-in scalar, which may not take it.
@@ -134,17 +121,21 @@ impl<'w, S: Source, R: ScalarRule> Walk<'w, '_, '_, '_, S, R> {
             Kind::Null | Kind::Variable => (Body::Null, None),
             Kind::Boolean => (Body::Boolean(source.boolean(at)), None),
             Kind::Whole => (Body::Whole(text), None),
-            Kind::Decimal => (decimal_body(source.scale(at), text), None),
+            Kind::Decimal => {
+                let scale = source.scale(at);
+                let digits = text;
+                (Body::Decimal { scale, digits }, None)
+            }
             Kind::String | Kind::Enum => (Body::String(text), None),
             Kind::List => (Body::List, Some(Rest::Items(source.inside(at)))),
             Kind::Object => (Body::Object, Some(Rest::Members(source.inside(at)))),
         };
-        Opening {
-            body,
+        let inside = Inside {
             rest,
             shape: None,
             scalar,
-        }
+        };
+        Opening { body, inside }
     }
 
     // The record of a value at a type.
@@ -200,26 +191,18 @@ impl<'w, S: Source, R: ScalarRule> Walk<'w, '_, '_, '_, S, R> {
         ensures opened { OnOk result ((out.old.used + 6 ≤ out.new.used) × (length frames.new.items ≤ length frames.old.items + 1) × Stacked out.new.used frames.new.items) }
     {
         let at = step.at;
-        let opening = self.opening(at, step.shape)?;
+        let Opening { body, inside } = self.opening(at, step.shape)?;
         if frames.is_full() {
             return Err(ValueFault::TooDeep(self.spot(at)));
         }
         let start = out
-            .begin(step.name, opening.body)
+            .begin(step.name, body)
             .ok_or_else(|| ValueFault::NoSpace(self.spot(at)))?;
-        match opening.rest {
-            None => self.settle(at, opening.scalar, &out.written()[start..]),
-            rest => {
-                frames.push(Frame {
-                    rest,
-                    shape: opening.shape,
-                    start,
-                    at,
-                    scalar: opening.scalar,
-                });
-                Ok(())
-            }
+        if inside.rest.is_none() {
+            return self.settle(at, inside.scalar, &out.written()[start..]);
         }
+        frames.push(Frame { inside, start, at });
+        Ok(())
     }
 
     // The first of the values that are still to come in a record, and the record without it.
@@ -227,7 +210,7 @@ impl<'w, S: Source, R: ScalarRule> Walk<'w, '_, '_, '_, S, R> {
         ensures { IfSome result (λ p. p.1.start ≡ frame.start) }
     {
         let source = self.source;
-        let (name, at, rest) = match frame.rest? {
+        let (name, at, rest) = match frame.inside.rest? {
             Rest::Single(at) => (None, at, None),
             Rest::Items(span) => {
                 let (at, span) = source.next(span)?;
@@ -238,8 +221,12 @@ impl<'w, S: Source, R: ScalarRule> Walk<'w, '_, '_, '_, S, R> {
                 (Some(source.name(at)), at, Some(Rest::Members(span)))
             }
         };
-        let shape = frame.shape;
-        Some((Step { name, at, shape }, Frame { rest, ..frame }))
+        let shape = frame.inside.shape;
+        let inside = Inside {
+            rest,
+            ..frame.inside
+        };
+        Some((Step { name, at, shape }, Frame { inside, ..frame }))
     }
 
     // Goes on in a record that was the innermost open one: closes it, or opens the next one in it.
@@ -260,7 +247,7 @@ impl<'w, S: Source, R: ScalarRule> Walk<'w, '_, '_, '_, S, R> {
         match self.next(frame) {
             None => {
                 out.finish(frame.start);
-                self.settle(frame.at, frame.scalar, &out.written()[frame.start..])
+                self.settle(frame.at, frame.inside.scalar, &out.written()[frame.start..])
             }
             Some((step, frame)) => {
                 frames.push(frame);

@@ -4,12 +4,13 @@ ghost use Rattle.lookup.specs.First.{First};
 
 use lookup::{Lookup, Named, Table};
 use reader::literal::Literal;
-use schema::definition::built_in;
+use schema::definition::{MOST_SCALARS, built_in};
 use schema::tokens::Name;
 use schema::types::{Base, Type};
+use source::raw::Span;
 use source::tree::Tree;
 
-pub const MOST_TYPES: usize = 256;
+pub const MOST_TYPES: usize = MOST_SCALARS;
 
 pub const MOST_VALUES: usize = 1024;
 
@@ -24,15 +25,26 @@ pub enum TypeKind {
     Output,
 }
 
+impl TypeKind {
+    // What the name of a type of this kind stands for.
+    fn base(self, index: usize) -> Base {
+        match self {
+            TypeKind::Scalar => Base::Custom(index),
+            TypeKind::Enum => Base::Enum(index),
+            TypeKind::Input => Base::Input(index),
+            TypeKind::Output => Base::Output,
+        }
+    }
+}
+
 #[derive(Clone, Copy)]
 pub struct TypeDef<'a> {
     pub name: &'a [u8],
     // The offset of the name in the schema's text.
     pub place: usize,
     pub kind: TypeKind,
-    // Its values or fields: from `from` on, before `to`.
-    pub from: usize,
-    pub to: usize,
+    // Where its values or fields stand.
+    pub inside: Span,
 }
 
 // A value of an enum.
@@ -74,25 +86,25 @@ pub struct Schema<'a> {
     pub tree: Tree<'a>,
 }
 
-// The records from `from` on, before `to`; none where these do not stand.
-pub fn between<R>(records: &[R], from: usize, to: usize) -> &[R] {
-    records.get(from..to).unwrap_or(&[])
+// In a type with neither values nor fields.
+pub(crate) const NOTHING: Span = Span { from: 0, to: 0 };
+
+// The records that stand in the span; none where it does not stand.
+pub fn between<R>(records: &[R], span: Span) -> &[R] {
+    records.get(span.from..span.to).unwrap_or(&[])
 }
 
 // What a type's name stands for, where these types are declared.
 pub(crate) fn base_among(types: &[TypeDef<'_>], name: &[u8]) -> Base {
-    if let Some(base) = built_in(name) {
-        return base;
-    }
-    let Some(index) = Table::new(types).find(name) else {
-        return Base::Unknown;
-    };
-    match types[index].kind {
-        TypeKind::Scalar => Base::Custom(index),
-        TypeKind::Enum => Base::Enum(index),
-        TypeKind::Input => Base::Input(index),
-        TypeKind::Output => Base::Output,
-    }
+    built_in(name)
+        .or_else(|| declared(types, name))
+        .unwrap_or(Base::Unknown)
+}
+
+// What the name stands for among the declared types.
+fn declared(types: &[TypeDef<'_>], name: &[u8]) -> Option<Base> {
+    let index = Table::new(types).find(name)?;
+    Some(types[index].kind.base(index))
 }
 
 impl<'a> Schema<'a> {
@@ -117,26 +129,23 @@ impl<'a> Schema<'a> {
     }
 
     // Where the values or fields of a declared type stand; those of none nowhere.
-    fn inside(&self, index: usize) -> (usize, usize) {
-        self.types.get(index).map_or((0, 0), |ty| (ty.from, ty.to))
+    fn inside(&self, index: usize) -> Span {
+        self.types.get(index).map_or(NOTHING, |ty| ty.inside)
     }
 
     // The values of an enum.
     pub fn values_of(&self, index: usize) -> &[EnumValue<'a>] {
-        let (from, to) = self.inside(index);
-        between(self.values.as_slice(), from, to)
+        between(self.values.as_slice(), self.inside(index))
     }
 
     // The fields of an input object.
     pub fn fields_of(&self, index: usize) -> &[Field<'a>] {
-        let (from, to) = self.inside(index);
-        between(self.fields.as_slice(), from, to)
+        between(self.fields.as_slice(), self.inside(index))
     }
 
     // The number of the first field of an input object.
     pub fn first_field(&self, index: usize) -> usize {
-        let (from, _) = self.inside(index);
-        from
+        self.inside(index).from
     }
 
     pub fn field(&self, index: usize) -> Option<&Field<'a>> {

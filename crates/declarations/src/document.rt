@@ -3,13 +3,15 @@ ghost use Rattle.std.specs.Prelude.{◌≡◌, ◌≤◌, IfOk, vec_len};
 ghost use Rattle.schema.specs.Reading.{Onward};
 
 use crate::definition::{
-    EnumValue, Field, MOST_FIELDS, MOST_TYPES, MOST_VALUES, Schema, TypeDef, TypeKind, base_among,
+    EnumValue, Field, MOST_FIELDS, MOST_TYPES, MOST_VALUES, NOTHING, Schema, TypeDef, TypeKind,
+    base_among,
 };
 use schema::declaration;
 use schema::declaration::Declaration;
 use schema::tokens::{Name, Tokens};
 use schema::types::Base;
 use source::nodes::Nodes;
+use source::raw::Span;
 use source::tree::Tree;
 use std::alloc::Global;
 use text::fault::Fault;
@@ -69,13 +71,12 @@ fn definition<'a>(
     if schema.types.len() >= MOST_TYPES {
         return Err(Fault::NoSpace(place));
     }
-    let (from, to) = contents(tokens, kind, schema)?;
+    let inside = contents(tokens, kind, schema)?;
     schema.types.push(TypeDef {
         name,
         place,
         kind,
-        from,
-        to,
+        inside,
     })?;
     Ok(())
 }
@@ -85,7 +86,7 @@ fn contents<'a>(
     tokens: &mut Tokens<'a>,
     kind: TypeKind,
     schema: &mut Schema<'a>,
-) -> Result<(usize, usize), Fault>
+) -> Result<Span, Fault>
     ensures onward { IfOk result (λ _. Onward 0 tokens.old tokens.new) }
     ensures types { vec_len schema.new.types ≡ vec_len schema.old.types }
 {
@@ -93,14 +94,20 @@ fn contents<'a>(
         TypeKind::Enum => {
             let from = schema.values.len();
             enum_values(tokens, &mut schema.values)?;
-            Ok((from, schema.values.len()))
+            Ok(Span {
+                from,
+                to: schema.values.len(),
+            })
         }
         TypeKind::Input => {
             let from = schema.fields.len();
             input_fields(tokens, &mut schema.fields, &mut schema.tree.nodes)?;
-            Ok((from, schema.fields.len()))
+            Ok(Span {
+                from,
+                to: schema.fields.len(),
+            })
         }
-        TypeKind::Scalar | TypeKind::Output => Ok((0, 0)),
+        TypeKind::Scalar | TypeKind::Output => Ok(NOTHING),
     }
 }
 

@@ -1,7 +1,5 @@
 -- The links of the names of an object, and what adding a name does.
 use Rattle.std.specs.Prelude.{◌≡◌, ℕ, ◌+◌, ◌<◌, ◌≤◌, Bool, true, false, cond, List, [], ◌∷◌, ◌++◌, length, get_or, take, drop, Some, None, Ok, Err, Option, Result, ◌≢◌, slice_index_or}
-use Rattle.text.specs.declared.fault.Fault.{Fault}
-use Rattle.text.specs.declared.fault.Fault.TheVariants.{NoMemory}
 use Rattle.model.specs.Values.{has}
 use Rattle.names.specs.declared.part.Part.{Part}
 use Rattle.names.specs.declared.part.Part.TheVariants.{Text}
@@ -33,7 +31,7 @@ names_of text pool (l ∷ ls) = bytes_of text pool l.name ∷ names_of text pool
 abbrev pub names_from : (text pool : List ℕ) → List Link → ℕ → List (List ℕ)
 names_from text pool links base = names_of text pool (drop base links)
 
--- c is the child of the link at `at` on a side: a child comes after its parent, and any other number stands for none
+-- c is the child of the link at `at` on a side: a child comes after its parent and before the end; any other counts as none
 pub record Child (links : List Link) (at : ℕ) (side : Bool) (c : ℕ) : Type 0 where
   pub is : child_of (slice_index_or links at blank) side ≡ Some c
   pub after : at < c
@@ -84,7 +82,7 @@ pub record Added (text pool : List ℕ) (base : ℕ) (before after : List Link) 
   pub sound : Sound text pool after base
 
 -- what adding a name comes to; without memory nothing is added
-abbrev pub AddTold : (text pool : List ℕ) (base : ℕ) (before after : List Link) → Part → Result Bool Fault → Type 0
+abbrev pub AddTold : {E : Type 0} (text pool : List ℕ) (base : ℕ) (before after : List Link) → Part → Result Bool E → Type 0
 AddTold text pool base before after name (Ok true) = base ≤ length before → PartFits text pool name → Sound text pool before base → Added text pool base before after (bytes_of text pool name)
 AddTold text pool base before after name (Ok false) = (after ≡ before) × (PartFits text pool name → Sound text pool before base → has (names_from text pool before base) (bytes_of text pool name) ≡ true)
-AddTold text pool base before after name (Err f) = (f ≡ NoMemory) × (after ≡ before)
+AddTold text pool base before after name (Err e) = after ≡ before

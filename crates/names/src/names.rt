@@ -4,8 +4,7 @@ ghost use Rattle.names.specs.Bits.{hash_of_lem, bit_of};
 ghost use Rattle.names.specs.Index.{child_of, with_child_lem, AddTold, LeafTold};
 
 use crate::part::{Holder, Part};
-use std::alloc::Global;
-use text::fault::Fault;
+use std::alloc::{AllocError, Global};
 
 // The bits of a hash.
 const HASH_BITS: usize = 32;
@@ -106,6 +105,7 @@ impl Names {
                 return None;
             }
             let high = bit(hash, name, level);
+            // Closing an object cuts links off: a child that does not come after this link, before the end, is none.
             match link.child(high) {
                 Some(next) if next > at && next < self.links.len() => at = next,
                 _ => return Some((at, high)),
@@ -115,7 +115,7 @@ impl Names {
     }
 
     // Adds a name to those from `base` on; false where it is among them, and then nothing is added.
-    pub fn add(&mut self, base: usize, holder: Holder<'_>, name: Part) -> Result<bool, Fault>
+    pub fn add(&mut self, base: usize, holder: Holder<'_>, name: Part) -> Result<bool, AllocError>
         ensures { AddTold holder.entry.text.now holder.entry.pool.now base self.old.links.items self.new.links.items name result }
     {
         let bytes = name.bytes(holder);

@@ -78,8 +78,8 @@ impl<'a> Reader<'a> {
         }
     }
 
-    // What the string writes that stands from `start` to `end`, with its quotation marks: a part of the text if it has
-    // no escape, else added to the pool.
+    // What the lexeme's string writes, with `raw` between its quotation marks: a part of the text where it is plain,
+    // without an escape, else added to the pool.
     pub(crate) fn string_part(
         self,
         lexeme: Lexeme<'_>,

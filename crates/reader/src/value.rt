@@ -64,14 +64,14 @@ impl Reader<'_> {
         ensures { NewTold self.entry.manner.distinct self.entry.text.now pool.now base names.old.links.items names.new.links.items name result }
     {
         if self.manner.distinct {
-            names.add(
+            Ok(names.add(
                 base,
                 Holder {
                     text: self.text,
                     pool,
                 },
                 name,
-            )
+            )?)
         } else {
             Ok(true)
         }

@@ -1,8 +1,9 @@
 -- The bytes of records.
-use Rattle.std.specs.Prelude.{ℕ, ◌+◌, ◌-◌, ◌/◌, ◌%◌, Bool, cond, List, [], ◌∷◌, ◌++◌, length, take, drop, ℤ, Some, None, Option}
+use Rattle.std.specs.Prelude.{ℕ, ◌+◌, ◌-◌, ◌/◌, ◌%◌, cond, List, [], ◌∷◌, ◌++◌, length, take, drop, Some, None, Option}
 use Rattle.std.proofs.Common.{of_z}
 use Rattle.std.specs.Int.{w32}
 use Rattle.std.specs.Borrow.{Bor}
+use Rattle.text.specs.declared.decimal.Scale.{Scale}
 use Rattle.record.specs.declared.body.Body.{Body}
 use Rattle.record.specs.declared.body.Body.TheVariants.{Null, Boolean, Whole, Decimal, String, List as a_list, Object}
 
@@ -24,21 +25,21 @@ abbrev pub kind_of : Body → ℕ
 kind_of Null = 1
 kind_of (Boolean b) = 2
 kind_of (Whole s) = 3
-kind_of (Decimal n e s) = 4
+kind_of (Decimal z s) = 4
 kind_of (String s) = 5
 kind_of a_list = 6
 kind_of Object = 7
 
 -- the sign and the exponent of a decimal
-abbrev pub scale : Bool → ℤ → List ℕ
-scale n e = cond n 1 0 ∷ le32 (of_z w32 e)
+abbrev pub scale : Scale → List ℕ
+scale z = cond z.negative 1 0 ∷ le32 (of_z w32 z.exponent)
 
 -- the body of a record as it is opened
 abbrev pub opened : Body → List ℕ
 opened Null = []
 opened (Boolean b) = cond b 1 0 ∷ []
 opened (Whole s) = s.now
-opened (Decimal n e s) = scale n e ++ s.now
+opened (Decimal z s) = scale z ++ s.now
 opened (String s) = s.now
 opened a_list = []
 opened Object = []

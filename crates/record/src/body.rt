@@ -4,6 +4,7 @@ ghost use Rattle.record.specs.Kinds.{number_of};
 ghost use Rattle.record.specs.Records.{kind_of, opened};
 
 use crate::kind::{RecordKind, SCALE};
+use text::decimal::Scale;
 
 // What a record holds as it is opened. The contents of a list or an object come later.
 #[derive(Clone, Copy, Debug)]
@@ -11,11 +12,7 @@ pub enum Body<'a> {
     Null,
     Boolean(bool),
     Whole(&'a [u8]),
-    Decimal {
-        negative: bool,
-        exponent: i32,
-        digits: &'a [u8],
-    },
+    Decimal { scale: Scale, digits: &'a [u8] },
     String(&'a [u8]),
     List,
     Object,
@@ -30,11 +27,7 @@ impl Body<'_> {
             Body::Null => RecordKind::Null,
             Body::Boolean(_) => RecordKind::Boolean,
             Body::Whole(_) => RecordKind::Whole,
-            Body::Decimal {
-                negative: _,
-                exponent: _,
-                digits: _,
-            } => RecordKind::Decimal,
+            Body::Decimal { .. } => RecordKind::Decimal,
             Body::String(_) => RecordKind::String,
             Body::List => RecordKind::List,
             Body::Object => RecordKind::Object,

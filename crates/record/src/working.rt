@@ -1,15 +1,16 @@
 // The bytes that a call works in, and the records that are written into them.
 ghost use Rattle.std.specs.Prelude.{◌≡◌, ℕ, ◌+◌, ◌-◌, ◌^◌, ◌<◌, ◌≤◌, min, [], ◌∷◌, ◌++◌, length, replicate, MatchOption};
 ghost use Rattle.record.specs.Kinds.{number_of};
-ghost use Rattle.record.specs.Records.{kind_of, opened, scale, header, named, patched};
+ghost use Rattle.record.specs.Records.{kind_of, opened, scale as scale_bytes, header, named, patched};
 
 use crate::body::Body;
 use crate::kind::{HEADER, RecordKind};
+use text::decimal::Scale;
 
 // Working bytes, of which the first `used` are written. They are cleared on every way out.
 pub struct Working<'a> {
-    bytes: &'a mut [u8],
-    used: usize,
+    pub bytes: &'a mut [u8],
+    pub used: usize,
     ghost inside: { used ≤ length bytes.now },
 }
 
@@ -82,12 +83,12 @@ impl<'a> Working<'a> {
     }
 
     // Writes the sign and the exponent of a decimal.
-    fn put_scale(&mut self, negative: bool, exponent: i32)
+    fn put_scale(&mut self, scale: Scale)
         requires { self.old.used + 5 ≤ size self.old }
-        ensures { Wrote self.old self.new (scale negative exponent) }
+        ensures { Wrote self.old self.new (scale_bytes scale) }
     {
-        let [a, b, c, d] = exponent.to_le_bytes();
-        self.put(&[u8::from(negative), a, b, c, d]);
+        let [a, b, c, d] = scale.exponent.to_le_bytes();
+        self.put(&[u8::from(scale.negative), a, b, c, d]);
     }
 
     // Writes a body as it is opened.
@@ -99,12 +100,8 @@ impl<'a> Working<'a> {
             Body::Null | Body::List | Body::Object => {}
             Body::Boolean(value) => self.put(&[u8::from(value)]),
             Body::Whole(text) | Body::String(text) => self.put(text),
-            Body::Decimal {
-                negative,
-                exponent,
-                digits,
-            } => {
-                self.put_scale(negative, exponent);
+            Body::Decimal { scale, digits } => {
+                self.put_scale(scale);
                 self.put(digits);
             }
         }

@@ -88,12 +88,11 @@ pub fn read_operation<'a>(
     let mut tokens = Tokens::new(text)?;
     let kind = operation_kind(&mut tokens)?;
     tokens.eat(|token| matches!(token, Token::Name(_)))?;
-    let mut variables = Vec::new(heap);
     let mut nodes = Nodes::new(heap);
-    let open = tokens.eat(|token| matches!(token, Token::OpenParen))?;
-    if open.is_some() {
-        definitions(schema, &mut tokens, &mut variables, &mut nodes)?;
-    }
+    let variables = match tokens.eat(|token| matches!(token, Token::OpenParen))? {
+        Some(_) => definitions(heap, schema, &mut tokens, &mut nodes)?,
+        None => Vec::new(heap),
+    };
     tokens.expect(|token| matches!(token, Token::End))?;
     Ok(Operation {
         kind,
@@ -113,16 +112,16 @@ fn operation_kind(tokens: &mut Tokens<'_>) -> Result<OperationKind, Fault> {
     }
 }
 
-// Adds the variables that are defined before the `)`, at least one.
+// The variables that are defined before the `)`, at least one.
 fn definitions<'a>(
+    heap: Global,
     schema: &Schema<'_>,
     tokens: &mut Tokens<'a>,
-    variables: &mut Vec<Variable<'a>>,
     nodes: &mut Nodes,
-) -> Result<(), Fault>
-    requires { vec_len variables.old ≤ 64 }
-    ensures { vec_len variables.new ≤ 64 }
+) -> Result<Vec<Variable<'a>>, Fault>
+    ensures { IfOk result (λ variables. vec_len variables ≤ 64) }
 {
+    let mut variables = Vec::new(heap);
     loop {
         let Lexeme { token, start, .. } = tokens.next()?;
         match token {
@@ -140,7 +139,7 @@ fn definitions<'a>(
                     default,
                 })?;
             }
-            Token::CloseParen if !variables.is_empty() => return Ok(()),
+            Token::CloseParen if !variables.is_empty() => return Ok(variables),
             _ => return Err(Fault::BadText(start)),
         }
     }

@@ -30,9 +30,9 @@ pub fn safe_integer(text: &[u8]) -> bool {
 
 // Whether digits × 10^exponent is below 2^1024 - 2^970; the digits have no leading zero unless they are `0`.
 pub fn finite(digits: &[u8], exponent: i32) -> bool {
-    let Some(places) = digits.len().checked_add_signed(exponent as isize) else {
-        return true;
-    };
     // Zeros may follow the digits, but the last digit of the bound is none.
-    (places, digits) < (FLOAT_BOUND.len(), FLOAT_BOUND)
+    digits
+        .len()
+        .checked_add_signed(exponent as isize)
+        .is_none_or(|places| (places, digits) < (FLOAT_BOUND.len(), FLOAT_BOUND))
 }

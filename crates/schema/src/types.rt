@@ -8,6 +8,9 @@ use text::token::Token;
 
 pub const MOST_LEVELS: usize = 8;
 
+// One for the name, and one for each list around it.
+pub const MARKS: usize = MOST_LEVELS + 1;
+
 // What a type's name stands for.
 #[derive(Clone, Copy, Debug, PartialEq)]
 pub enum Base {
@@ -33,7 +36,7 @@ pub struct Shape<B = Base> {
     // How many lists stand around the name.
     pub levels: usize,
     // Of the name itself at 0, of each list around it at 1 and up, of the whole type at `levels`.
-    pub non_null: [bool; 9],
+    pub non_null: [bool; MARKS],
 }
 
 impl<B: Copy> Shape<B> {
@@ -100,7 +103,7 @@ pub(crate) fn read_type<'a>(tokens: &mut Tokens<'a>) -> Result<Type<'a, ()>, Fau
 {
     let levels = opening(tokens)?;
     let Name { name, place } = tokens.name()?;
-    let mut non_null = [false; 9];
+    let mut non_null = [false; MARKS];
     non_null[0] = non_null_mark(tokens)?;
     for mark in &mut non_null[1..=levels] {
         tokens.expect(|token| matches!(token, Token::CloseBracket))?;

@@ -54,7 +54,23 @@ struct Request<'a, 's, 'b, 'o, 'r, 'w, S, R> {
     object: usize,
 }
 
-impl<S: Source, R: ScalarRule> Request<'_, '_, '_, '_, '_, '_, S, R> {
+impl<'a, 's, 'r, S: Source, R: ScalarRule> Request<'a, 's, '_, '_, 'r, '_, S, R> {
+    // The walk of the variable's value in a source.
+    fn walk_in<'v, T: Source>(
+        &self,
+        source: &'v T,
+        variable: usize,
+        placed: bool,
+    ) -> Walk<'v, 'a, 's, 'r, T, R> {
+        Walk {
+            source,
+            schema: self.schema,
+            rule: self.rule,
+            variable,
+            placed,
+        }
+    }
+
     // Writes the name and the record of a variable, if it has a value, and tells where they stand.
     fn write_variable(
         &self,
@@ -68,23 +84,11 @@ impl<S: Source, R: ScalarRule> Request<'_, '_, '_, '_, '_, '_, S, R> {
     {
         let start = out.written().len();
         if let Some(at) = self.source.member(self.object, variable.name) {
-            let walk = Walk {
-                source: self.source,
-                schema: self.schema,
-                rule: self.rule,
-                variable: index,
-                placed: true,
-            };
+            let walk = self.walk_in(self.source, index, true);
             walk.walk(variable.name, at, &variable.ty, out, frames)?;
         } else if let Some(at) = variable.default {
             let literal = self.operation.literal(at);
-            let walk = Walk {
-                source: &literal,
-                schema: self.schema,
-                rule: self.rule,
-                variable: index,
-                placed: false,
-            };
+            let walk = self.walk_in(&literal, index, false);
             walk.walk(variable.name, literal.root(), &variable.ty, out, frames)?;
         } else if variable.ty.shape.is_non_null() {
             return Err(RequestFault::MissingVariable {
@@ -169,10 +173,7 @@ impl<'a, 's, 'b, 'o, R: ScalarRule> Sheet<'a, 's, 'b, 'o, R> {
     pub fn bytes(&self) -> &[u8]
         ensures { result.now ≡ take (taken self.now.contents) self.now.bytes.items }
     {
-        let length = match &self.contents {
-            Some(contents) => contents.length,
-            None => 0,
-        };
+        let length = self.contents.as_ref().map_or(0, |contents| contents.length);
         &self.bytes.as_slice()[0..length]
     }
 

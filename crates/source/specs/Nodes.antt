@@ -1,7 +1,5 @@
 -- Nodes, and what the functions on their table do.
 use Rattle.std.specs.Prelude.{◌≡◌, ℕ, ◌-◌, false, cond, List, [], ◌∷◌, ◌++◌, length, pos, Ok, Err, Result, nat_lt, slice_index_or, slice_set}
-use Rattle.text.specs.declared.fault.Fault.{Fault}
-use Rattle.text.specs.declared.fault.Fault.TheVariants.{NoMemory}
 use Rattle.names.specs.declared.part.Part.{Part}
 use Rattle.names.specs.declared.part.Part.TheVariants.{Text}
 use Rattle.source.specs.declared.raw.Kind.{Kind}
@@ -31,6 +29,6 @@ abbrev pub closed : List Node → ℕ → List Node
 closed nodes at = cond (nat_lt at (length nodes)) (slice_set nodes at (sized (node_at nodes at) (length nodes - at))) nodes
 
 -- a node was added at the end, or there was no memory
-abbrev pub AddTold : List Node → List Node → Node → Result Unit Fault → Type 0
+abbrev pub AddTold : {E : Type 0} → List Node → List Node → Node → Result Unit E → Type 0
 AddTold before after node (Ok u) = after ≡ before ++ node ∷ []
-AddTold before after node (Err f) = (f ≡ NoMemory) × (after ≡ before)
+AddTold before after node (Err e) = after ≡ before

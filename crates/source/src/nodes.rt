@@ -5,9 +5,8 @@ ghost use Rattle.source.specs.Nodes.{node_at, headed, closed, AddTold};
 use crate::raw::Kind;
 use names::names::Names;
 pub use names::part::Part;
-use std::alloc::Global;
+use std::alloc::{AllocError, Global};
 use text::decimal::Scale;
-use text::fault::Fault;
 
 // A value; those inside it follow it in the table.
 #[derive(Clone, Copy, Debug)]
@@ -36,10 +35,7 @@ impl Node {
         kind: Kind::Null,
         place: 0,
         flag: false,
-        scale: Scale {
-            negative: false,
-            exponent: 0,
-        },
+        scale: Scale::ZERO,
         name: Part::EMPTY,
         text: Part::EMPTY,
         size: 0,
@@ -73,7 +69,7 @@ impl Nodes {
     }
 
     // Adds a node at the end of the table.
-    pub fn add(&mut self, node: Node) -> Result<(), Fault>
+    pub fn add(&mut self, node: Node) -> Result<(), AllocError>
         ensures told { AddTold self.old.list.items self.new.list.items node result }
         ensures pool { self.new.pool ≡ self.old.pool }
         ensures names { self.new.names ≡ self.old.names }

@@ -1,21 +1,15 @@
 // How a tree of raw values is asked.
 ghost use Rattle.std.specs.Prelude.{◌≡◌, ℕ, List as Bytes, IfSome};
+ghost use Rattle.text.specs.declared.language.Language.{Language};
 ghost use Rattle.model.specs.Values.{Raw, Raws, Mems, list, object, place_of};
 ghost use Rattle.model.specs.Coercion.{member as member_of};
-ghost use Rattle.source.specs.declared.raw.Form.{Form};
 ghost use Rattle.source.specs.declared.raw.Span.{Span};
 ghost use Rattle.source.specs.Heads.{kind_of, flag_of, text_of};
 ghost use Rattle.source.specs.Spans.{Taken, Within};
 ghost use Rattle.source.specs.Standing.{Lawful, Shrinks, LeadsItems, LeadsMembers, Found, Scaled};
 
 use text::decimal::Scale;
-
-// The language that a value is written in.
-#[derive(Clone, Copy, Debug, PartialEq)]
-pub enum Form {
-    Json,
-    Literal,
-}
+use text::language::Language;
 
 #[derive(Clone, Copy, Debug, PartialEq)]
 pub enum Kind {
@@ -37,13 +31,19 @@ pub struct Span {
     pub to: usize,
 }
 
+impl Span {
+    // With nothing in it.
+    pub const EMPTY: Span = Span { from: 0, to: 0 };
+}
+
 // A finite tree of raw values, asked by cursors. Asking changes nothing.
 // A cursor that stands for nothing answers as null, and with nothing in it.
 // Each answer is that of the tree at the cursor, whichever tree stands there.
 pub trait Source {
-    const FORM: Form;
+    // The language that the values are written in.
+    const FORM: Language;
 
-    ghost form: { Form };
+    ghost form: { Language };
 
     // The cursor past a value and all below it.
     ghost past: { Self → ℕ → ℕ };
@@ -65,7 +65,7 @@ pub trait Source {
     ghost laws: { Lawful stands };
 
     // Answers FORM.
-    fn written(&self) -> Form
+    fn written(&self) -> Language
         ensures { result ≡ form };
 
     fn root(&self) -> usize

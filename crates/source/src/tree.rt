@@ -84,7 +84,7 @@ impl<'a> Tree<'a> {
                 from: at + 1,
                 to: at + node.size,
             },
-            _ => Span { from: 0, to: 0 },
+            _ => Span::EMPTY,
         }
     }
 
@@ -113,8 +113,11 @@ impl<'a> Tree<'a> {
 
     // Whether the value is a variable or holds one.
     pub fn holds_variable(&self, at: usize) -> bool {
-        let past = at.saturating_add(self.nodes.get(at).size);
-        (at..past).any(|below| self.kind(below) == Kind::Variable)
+        let size = self.nodes.get(at).size;
+        let from = self.nodes.list.get(at..).unwrap_or_default();
+        from.iter()
+            .take(size)
+            .any(|node| node.kind == Kind::Variable)
     }
 
     // The place of the object's first member whose name an earlier member has.

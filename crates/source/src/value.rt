@@ -2,12 +2,10 @@
 ghost use Rattle.std.specs.Prelude.{◌≡◌};
 ghost use Rattle.text.specs.declared.language.Language.{Language};
 ghost use Rattle.text.specs.declared.language.Language.TheVariants.{Json as JsonLanguage, Graphql as GraphqlLanguage};
-ghost use Rattle.source.specs.declared.raw.Form.{Form};
-ghost use Rattle.source.specs.declared.raw.Form.TheVariants.{Json as JsonForm, Literal as LiteralForm};
 ghost use Rattle.source.specs.Table.{past_of, tree_table, Held, HeldAll, HeldMems, Named};
 ghost use Rattle.source.specs.OneTree.{lawful};
 
-use crate::raw::{Form, Kind, Source, Span};
+use crate::raw::{Kind, Source, Span};
 use crate::tree::Tree;
 use std::marker::PhantomData;
 use text::decimal::Scale;
@@ -15,11 +13,7 @@ use text::language::Language;
 
 // The language that a text is written in.
 pub trait Written {
-    const FORM: Form;
-
     const LANGUAGE: Language;
-
-    ghost FORM: { Form };
 
     ghost LANGUAGE: { Language };
 }
@@ -29,11 +23,7 @@ pub trait Written {
 pub struct Json;
 
 impl Written for Json {
-    const FORM: Form = Form::Json;
-
     const LANGUAGE: Language = Language::Json;
-
-    ghost FORM = { JsonForm };
 
     ghost LANGUAGE = { JsonLanguage };
 }
@@ -43,11 +33,7 @@ impl Written for Json {
 pub struct Graphql;
 
 impl Written for Graphql {
-    const FORM: Form = Form::Literal;
-
     const LANGUAGE: Language = Language::Graphql;
-
-    ghost FORM = { LiteralForm };
 
     ghost LANGUAGE = { GraphqlLanguage };
 }
@@ -77,9 +63,9 @@ impl<'t, 'a, W> Value<'t, 'a, W> {
 }
 
 impl<W: Written> Source for Value<'_, '_, W> {
-    const FORM: Form = W::FORM;
+    const FORM: Language = W::LANGUAGE;
 
-    ghost form = { W.FORM };
+    ghost form = { W.LANGUAGE };
 
     ghost past = { λ s. past_of s.tree.now.nodes.list.items };
 
@@ -95,8 +81,8 @@ impl<W: Written> Source for Value<'_, '_, W> {
 
     ghost laws = { lawful (λ s. tree_table s.tree.now) };
 
-    fn written(&self) -> Form {
-        W::FORM
+    fn written(&self) -> Language {
+        W::LANGUAGE
     }
 
     fn root(&self) -> usize {

@@ -52,28 +52,28 @@ none_leads n (no_record u) p f x (at_item g) = u _ _ g
 none_leads n (no_record u) p f x (at_member g w k) = u _ _ g
 none_leads n (bare_name a k u) p f x l = u _ _ (leads_member n a k l).framed
 
-points_frame : {bytes : List ℕ} {i p f : ℕ} {x : Rec} {h : Frame} {t : Target} → FrameAt bytes i (length bytes) h → OfFrame bytes i h t → Stands bytes i p f x → Points bytes p f x t
+points_frame : {bytes : List ℕ} {i p f : ℕ} {x : Rec} {h : Frame} {t : Target} → FrameAt bytes i (length bytes) h → OfFrame i h t → Stands bytes i p f x → Points bytes p f x t
 points_frame {bytes} {i} {x = x} a o s =
     let e = one_framed a.framed s.framed in
     record {
       place = o.place ∙ sym s.place;
       kinds = o.kinds ∙ e.0;
       from = o.from ∙ a.starts ∙ sym s.from;
-      bodies = o.body ∙ e.1;
+      bodies = o.body ∙ a.whole ∙ e.1;
       there = rw s.from (subst (λ k. Fills bytes (i + 6) k (body x)) (omega arith) (body_fills (framed-fills s.framed refl)));
     }
 
 -- the record that was found at the place is the cursor's
-follows_frame : {bytes : List ℕ} {at i : ℕ} {h : Frame} (o : Option Target) → FrameAt bytes i (length bytes) h → h.end - h.from ≤ past_at bytes at - at - 1 → ((p f : ℕ) (x : Rec) → Leads bytes at p f x → Stands bytes i p f x) → TargetTold bytes i h o → FollowTold bytes at o
+follows_frame : {bytes : List ℕ} {at i : ℕ} {h : Frame} (o : Option Target) → FrameAt bytes i (length bytes) h → h.end - h.from ≤ past_at bytes at - at - 1 → ((p f : ℕ) (x : Rec) → Leads bytes at p f x → Stands bytes i p f x) → TargetTold i h o → FollowTold bytes at o
 follows_frame None a w s t = λ p f x l. let q = kind_named x in t q.0 (q.1 ∙ sym (one_framed a.framed (s p f x l).framed).0)
 follows_frame (Some t) a w s o =
-    let m = ap length o.body in
+    let m = ap length (o.body ∙ a.whole) in
     let b = a.starts in
     let e = a.ends in
     let z = a.inside in
     record { lies = omega (arith, o.from); narrow = omega arith; points = λ p f x l. points_frame a o (s p f x l) }
 
-pub follows_valued : {bytes : List ℕ} {at i : ℕ} {h : Frame} (o : Option Target) → at ≢ length bytes → Valued bytes at (length bytes) i h → TargetTold bytes i h o → FollowTold bytes at o
+pub follows_valued : {bytes : List ℕ} {at i : ℕ} {h : Frame} (o : Option Target) → at ≢ length bytes → Valued bytes at (length bytes) i h → TargetTold i h o → FollowTold bytes at o
 follows_valued o n (an_item a k) t = follows_frame o a (narrow_item a k) (λ p f x l. leads_item n a k l) t
 follows_valued o n (a_member a k b) t = follows_frame o b (narrow_member a k b) (λ p f x l. leads_member n a k l) t
 

@@ -1,11 +1,11 @@
 -- Records that stand in bytes.
-use Rattle.std.proofs.Common.{◌≡◌, ℕ, ◌+◌, ◌-◌, ◌*◌, ◌/◌, ◌%◌, ◌^◌, ◌<◌, ◌≤◌, List, ◌∷◌, ◌++◌, length, min, get_or, take, drop, refl, sym, ap, ◌∙◌, arith}
+use Rattle.std.proofs.Common.{◌≡◌, ℕ, ◌+◌, ◌-◌, ◌*◌, ◌/◌, ◌%◌, ◌^◌, ◌<◌, ◌≤◌, List, ◌∷◌, ◌++◌, length, min, get_or, take, drop, sym, ap, ◌∙◌, arith}
 use native.Mathlib.Nat.{div-div-eq-div-mul}
 use Rattle.std.proofs.lemmas.List.{get_or-drop, get_or-take, drop_more}
 use Rattle.text.proofs.LexBase.{cut, length_part}
-use Rattle.text.specs.Cuts.{part}
 use Rattle.model.specs.Records.{framed}
-use Rattle.stored.specs.Frames.{Framed, Unframed, FrameAt}
+use Rattle.stored.specs.declared.header.Frame.{Frame}
+use Rattle.stored.specs.Frames.{Framed, Unframed, FrameAt, body_in}
 use Rattle.stored.specs.Past.{size_at}
 use Rattle.stored.specs.OneFrame.{inside}
 
@@ -72,9 +72,9 @@ bytes_of a b c d n p q r s e =
     let three : n / 16777216 ≡ d = omega arith in
     (omega arith, omega arith, omega arith, omega arith)
 
-joined : (bytes : List ℕ) (i from size z : ℕ) (b : List ℕ) → Small bytes i → z ≡ 0 → length b ≡ size_at bytes i → drop (i + 6) bytes ≡ b ++ drop (from + size) bytes
-    → get_or bytes i 0 ∷ get_or bytes (i + 1) 0 ∷ get_or bytes (i + 2) 0 ∷ get_or bytes (i + 3) 0 ∷ get_or bytes (i + 4) 0 ∷ z ∷ drop (i + 6) bytes ≡ framed (get_or bytes (i + 4) 0) b ++ drop (from + size) bytes
-joined bytes i from size z b s e l d =
+joined : (bytes : List ℕ) (i e z : ℕ) (b : List ℕ) → Small bytes i → z ≡ 0 → length b ≡ size_at bytes i → drop (i + 6) bytes ≡ b ++ drop e bytes
+    → get_or bytes i 0 ∷ get_or bytes (i + 1) 0 ∷ get_or bytes (i + 2) 0 ∷ get_or bytes (i + 3) 0 ∷ get_or bytes (i + 4) 0 ∷ z ∷ drop (i + 6) bytes ≡ framed (get_or bytes (i + 4) 0) b ++ drop e bytes
+joined bytes i e z b s w l d =
     let p = bytes_of (get_or bytes i 0) (get_or bytes (i + 1) 0) (get_or bytes (i + 2) 0) (get_or bytes (i + 3) 0) (length b) s.s0 s.s1 s.s2 s.s3 l in
     let p0 = p.0 in
     let p1 = p.1 in
@@ -83,14 +83,15 @@ joined bytes i from size z b s e l d =
     cc
 
 -- a header that fits is that of a record
-pub frame_is : (bytes : List ℕ) (i to from size : ℕ) → i + 6 ≤ length bytes → Small bytes i → size ≡ size_at bytes i → from ≡ i + 6 → from + size ≤ to → from + size ≤ length bytes → get_or bytes (i + 5) 0 ≡ 0 → FrameAt bytes i to (record { kind = get_or bytes (i + 4) 0; from = from; end = from + size })
-frame_is bytes i to from size room small is at fits within zero =
-    let b = part bytes from (from + size) in
-    let l : length b ≡ size = length_part bytes from (from + size) within ∙ omega arith in
-    let whole : drop i bytes ≡ framed (get_or bytes (i + 4) 0) b ++ drop (from + size) bytes =
-    six bytes i room ∙ joined bytes i from size (get_or bytes (i + 5) 0) b small zero (l ∙ is) (ap (λ k. drop k bytes) (sym at) ∙ cut bytes from (from + size) (omega arith)) in
+pub frame_is : (bytes : List ℕ) (i to size : ℕ) (h : Frame) → i + 6 ≤ length bytes → Small bytes i → size ≡ size_at bytes i → h.kind ≡ get_or bytes (i + 4) 0 → h.from ≡ i + 6 → h.end ≡ h.from + size → h.body.now ≡ body_in bytes h → h.end ≤ to → h.end ≤ length bytes → get_or bytes (i + 5) 0 ≡ 0 → FrameAt bytes i to h
+frame_is bytes i to size h room small is kind at ends body fits within zero =
+    let b = body_in bytes h in
+    let l : length b ≡ size = length_part bytes h.from h.end within ∙ omega arith in
+    let whole : drop i bytes ≡ framed h.kind b ++ drop h.end bytes =
+    rw kind (six bytes i room ∙ joined bytes i h.end (get_or bytes (i + 5) 0) b small zero (l ∙ is) (ap (λ k. drop k bytes) (sym at) ∙ cut bytes h.from h.end (omega arith))) in
     record {
-      framed = record { rest = drop (from + size) bytes; there = whole; small = omega arith; within = omega arith };
+      framed = record { rest = drop h.end bytes; there = whole; small = omega arith; within = omega arith };
+      whole = body;
       starts = at;
       forward = omega arith;
       ends = omega arith;
@@ -127,11 +128,11 @@ overlong bytes xs i to top size c least six_long is more k b f =
     omega arith
 
 -- a header that was cut from the bytes
-pub frame_in : (bytes xs : List ℕ) (i to top size : ℕ) → Cut bytes i top xs → top ≤ to → 6 ≤ length xs → Small bytes i → size ≡ get_or xs 0 0 + get_or xs 1 0 * 256 + get_or xs 2 0 * 65536 + get_or xs 3 0 * 16777216 → get_or xs 5 0 ≡ 0 → size ≤ length xs - 6 → FrameAt bytes i to (record { kind = get_or xs 4 0; from = i + 6; end = i + 6 + size })
-frame_in bytes xs i to top size c up six_long small is zero fits =
+pub frame_in : (bytes xs : List ℕ) (i to top size : ℕ) (h : Frame) → Cut bytes i top xs → top ≤ to → 6 ≤ length xs → Small bytes i → size ≡ get_or xs 0 0 + get_or xs 1 0 * 256 + get_or xs 2 0 * 65536 + get_or xs 3 0 * 16777216 → get_or xs 5 0 ≡ 0 → size ≤ length xs - 6 → h.kind ≡ get_or xs 4 0 → h.from ≡ i + 6 → h.end ≡ i + 6 + size → h.body.now ≡ body_in bytes h → FrameAt bytes i to h
+frame_in bytes xs i to top size h c up six_long small is zero fits kind at ends body =
     let l = c.long in
     let w = c.within in
     let s = cut_size size c six_long is in
     let b4 = cut_byte 4 c (omega arith) in
     let b5 = cut_byte 5 c (omega arith) in
-    rw b4 (frame_is bytes i to (i + 6) size (omega arith) small s refl (omega arith) (omega arith) (omega arith))
+    frame_is bytes i to size h (omega arith) small s (kind ∙ b4) at (omega arith) body (omega arith) (omega arith) (omega arith)

@@ -47,7 +47,7 @@ not_formed f x d e n a = false≢true (sym e ∙ d.1 (subst NameLimits (sym (x �
 pub name_at : {bytes xs : List ℕ} {i to : ℕ} {h : Frame} {r : Bool} → FrameAt bytes i to h → h.kind ≡ 8 → xs ≡ body_in bytes h → Decides r (NameLimits xs) → r ≡ true → NameAt bytes i to (body_in bytes h)
 name_at {bytes} {i = i} {to} {h} f k x d t = record { framed = subst (λ n. Framed bytes i to n (body_in bytes h)) k f.framed; within = subst NameLimits x (d.0 t) }
 
-pub has_it : (bytes : List ℕ) (base : ℕ) (before after : List Link) (h : Frame) (b : Bool) → b ≡ false → AddTold bytes [] base before after (Text h.from h.end) (Ok b) → h.from ≤ h.end → h.end ≤ length bytes → Sound bytes [] before base → has (names_from bytes [] before base) (body_in bytes h) ≡ true
+pub has_it : (bytes : List ℕ) (base : ℕ) (before after : List Link) (h : Frame) (b : Bool) → b ≡ false → AddTold {E = Unit} bytes [] base before after (Text h.from h.end) (Ok b) → h.from ≤ h.end → h.end ≤ length bytes → Sound bytes [] before base → has (names_from bytes [] before base) (body_in bytes h) ≡ true
 has_it bytes base before after h true f t l m s = absurd (false≢true (sym f))
 has_it bytes base before after h false f t l m s = t.1 (l, m) s
 

@@ -12,7 +12,7 @@ use Rattle.record.specs.Kinds.{number_of}
 use Rattle.record.specs.declared.kind.RecordKind.{RecordKind}
 use Rattle.stored.specs.declared.header.Frame.{Frame}
 use Rattle.stored.specs.declared.stored.Target.{Target}
-use Rattle.stored.specs.Frames.{past, Framed, Fills, body_in}
+use Rattle.stored.specs.Frames.{past, Framed, Fills}
 use Rattle.stored.specs.Past.{past_at}
 
 -- a record as a raw value: p is its place, f is where its body starts
@@ -89,16 +89,16 @@ FollowTold bytes at None = (p f : ℕ) (x : Rec) → Leads bytes at p f x → �
 FollowTold bytes at (Some h) = Follows bytes at h
 
 -- the record at a place, by its frame
-pub record OfFrame (bytes : List ℕ) (at : ℕ) (frame : Frame) (h : Target) : Type 0 where
+pub record OfFrame (at : ℕ) (frame : Frame) (h : Target) : Type 0 where
   pub place : h.place ≡ at
   pub kinds : number_of h.kind ≡ frame.kind
   pub from : h.from ≡ frame.from
-  pub body : h.body.now ≡ body_in bytes frame
+  pub body : h.body.now ≡ frame.body.now
 
 -- the frame's record, or that no kind has its number
-abbrev pub TargetTold : List ℕ → ℕ → Frame → Option Target → Type 0
-TargetTold bytes at frame None = (q : RecordKind) → number_of q ≢ frame.kind
-TargetTold bytes at frame (Some h) = OfFrame bytes at frame h
+abbrev pub TargetTold : ℕ → Frame → Option Target → Type 0
+TargetTold at frame None = (q : RecordKind) → number_of q ≢ frame.kind
+TargetTold at frame (Some h) = OfFrame at frame h
 
 -- the kind of a raw value, by the number of a record's
 abbrev pub kind_for_lem : ℕ → Kind

@@ -24,13 +24,14 @@ pub record Fills (bytes : List ℕ) (i e : ℕ) (xs : List ℕ) : Type 0 where
 abbrev pub Unframed : List ℕ → ℕ → ℕ → Type 0
 Unframed bytes i to = (k : ℕ) (b : List ℕ) → Framed bytes i to k b → ⊥
 
--- the bytes of a header's body
+-- the bytes where a header says that the body stands
 abbrev pub body_in : List ℕ → Frame → List ℕ
 body_in bytes h = part bytes h.from h.end
 
 -- the header says where the body of the record at i stands, and of which kind it is
 pub record FrameAt (bytes : List ℕ) (i to : ℕ) (h : Frame) : Type 0 where
   pub framed : Framed bytes i to h.kind (body_in bytes h)
+  pub whole : h.body.now ≡ body_in bytes h
   pub starts : h.from ≡ i + 6
   pub forward : h.from ≤ h.end
   pub ends : h.end ≡ past i (body_in bytes h)

@@ -1,37 +1,29 @@
 // The headers of records: the length of the body in four bytes and the kind in two, little-endian.
-ghost use Rattle.std.specs.Prelude.{◌≡◌, ◌≤◌, length, Decides};
-ghost use Rattle.stored.specs.Frames.{FrameTold, ValuedTold, body_in};
+ghost use Rattle.std.specs.Prelude.{◌≡◌, Decides};
+ghost use Rattle.stored.specs.Frames.{FrameTold, ValuedTold};
 
 use record::kind::{HEADER, RecordKind};
 
-// The number of a record's kind, which need not be that of a kind, and where its body stands.
+// The number of a record's kind, which need not be that of a kind, where its body stands, and the body.
 #[derive(Clone, Copy, Debug)]
-pub struct Frame {
+pub struct Frame<'a> {
     pub kind: u8,
     pub from: usize,
     pub end: usize,
+    pub body: &'a [u8],
 }
 
-impl Frame {
+impl Frame<'_> {
     // Whether the record is a member's name.
     pub fn is_name(self) -> bool
-        ensures { Decides result (self.kind ≡ 8) }
+        ensures { Decides result (self.entry.kind ≡ 8) }
     {
         self.kind == u8::from(RecordKind::Name)
-    }
-
-    // The body, in the bytes that the frame was found in.
-    pub fn body(self, bytes: &[u8]) -> &[u8]
-        requires forward { self.from ≤ self.end }
-        requires inside { self.end ≤ length bytes.now }
-        ensures { result.now ≡ body_in bytes.now self }
-    {
-        &bytes[self.from..self.end]
     }
 }
 
 // The header of the record at `at`, if the record ends no later than `to` and its kind is below 256.
-pub fn header(bytes: &[u8], at: usize, to: usize) -> Option<Frame>
+pub fn header(bytes: &[u8], at: usize, to: usize) -> Option<Frame<'_>>
     ensures { FrameTold bytes.now at to result }
 {
     let to = to.min(bytes.len());
@@ -43,15 +35,17 @@ pub fn header(bytes: &[u8], at: usize, to: usize) -> Option<Frame>
         return None;
     }
     let from = at + HEADER;
+    let end = from + size;
     Some(Frame {
         kind: *kind,
         from,
-        end: from + size,
+        end,
+        body: &bytes[from..end],
     })
 }
 
 // The record of the value of what starts at `at`, an item or a member with its name: its place and its frame.
-pub fn valued(bytes: &[u8], at: usize, to: usize) -> Option<(usize, Frame)>
+pub fn valued(bytes: &[u8], at: usize, to: usize) -> Option<(usize, Frame<'_>)>
     ensures { ValuedTold bytes.now at to result }
 {
     let first = header(bytes, at, to)?;

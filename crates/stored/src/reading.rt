@@ -25,7 +25,7 @@ impl Reader<'_> {
         ensures same { self.new.bytes ≡ self.old.bytes }
     {
         let frame = header(self.bytes, at, to).ok_or(Fault::BadText(at))?;
-        let content = match holds(frame.kind, frame.body(self.bytes)) {
+        let content = match holds(frame.kind, frame.body) {
             Ok(content) => content,
             Err(error) => return Err(error.at(at)),
         };
@@ -79,7 +79,7 @@ impl Reader<'_> {
         ensures same { self.new.bytes ≡ self.old.bytes }
     {
         let frame = header(self.bytes, at, to).ok_or(Fault::BadText(at))?;
-        if !frame.is_name() || !name_form(frame.body(self.bytes)) {
+        if !frame.is_name() || !name_form(frame.body) {
             return Err(Fault::BadText(at));
         }
         let holder = Holder {

@@ -1,9 +1,9 @@
 // A sheet's bytes as a source of raw values in JSON form.
-ghost use Rattle.std.specs.Prelude.{◌≡◌, ℕ, ◌≤◌, length};
+ghost use Rattle.std.specs.Prelude.{◌≡◌, ℕ, length};
 ghost use Rattle.record.specs.Kinds.{number_of};
 ghost use Rattle.model.specs.Values.{Rec, Mems};
 ghost use Rattle.model.specs.Coercion.{member as member_of};
-ghost use Rattle.source.specs.declared.raw.Form.TheVariants.{Json as JsonForm};
+ghost use Rattle.text.specs.declared.language.Language.TheVariants.{Json as JsonLanguage};
 ghost use Rattle.source.specs.Heads.{flag_of, text_of};
 ghost use Rattle.source.specs.Standing.{Found, Scaled};
 ghost use Rattle.stored.specs.Cursors.{Leads, Held, HeldAll, HeldMems, Named, TargetTold, FollowTold, OfRecord, kind_for_lem};
@@ -16,10 +16,14 @@ use crate::reading::Reader;
 use names::names::Names;
 use record::kind::{RecordKind, SCALE};
 use source::limits::DEEPEST;
-use source::raw::{Form, Kind, Source, Span};
+use source::raw::{Kind, Source, Span};
 use std::alloc::Global;
 use text::decimal::Scale;
 use text::fault::Fault;
+use text::language::Language;
+
+// The most bytes of a sheet.
+const LONGEST_SHEET: usize = 65536;
 
 // The bytes of a sheet that were found to be in order.
 #[derive(Clone, Copy)]
@@ -38,17 +42,15 @@ struct Target<'a> {
 
 impl<'a> Target<'a> {
     // The record at `place`, if its frame has a kind.
-    fn new(bytes: &'a [u8], place: usize, frame: Frame) -> Option<Target<'a>>
-        requires forward { frame.from ≤ frame.end }
-        requires inside { frame.end ≤ length bytes.now }
-        ensures { TargetTold bytes.now place frame result }
+    fn new(place: usize, frame: Frame<'a>) -> Option<Target<'a>>
+        ensures { TargetTold place frame.entry result }
     {
         let kind = RecordKind::try_from(frame.kind).ok()?;
         Some(Target {
             place,
             kind,
             from: frame.from,
-            body: frame.body(bytes),
+            body: frame.body,
         })
     }
 
@@ -77,7 +79,7 @@ impl<'a> Target<'a> {
     {
         match self.kind {
             RecordKind::Whole | RecordKind::String => self.body,
-            RecordKind::Decimal => self.body.get(SCALE..).unwrap_or(&[]),
+            RecordKind::Decimal => self.body.get(SCALE..).unwrap_or_default(),
             RecordKind::Null
             | RecordKind::Boolean
             | RecordKind::List
@@ -94,16 +96,10 @@ impl<'a> Target<'a> {
                 negative: *sign == 1,
                 exponent: i32::from_le_bytes([*a, *b, *c, *d]),
             },
-            _ => ZERO,
+            _ => Scale::ZERO,
         }
     }
 }
-
-// The sign and the exponent of what is no decimal.
-const ZERO: Scale = Scale {
-    negative: false,
-    exponent: 0,
-};
 
 impl<'a> Stored<'a> {
     // The record of the value at the cursor.
@@ -120,14 +116,14 @@ impl<'a> Stored<'a> {
             });
         }
         let (place, frame) = valued(bytes, at, bytes.len())?;
-        Target::new(bytes, place, frame)
+        Target::new(place, frame)
     }
 }
 
 impl Source for Stored<'_> {
-    const FORM: Form = Form::Json;
+    const FORM: Language = Language::Json;
 
-    ghost form = { JsonForm };
+    ghost form = { JsonLanguage };
 
     ghost past = { λ s. past_at s.bytes.now };
 
@@ -143,7 +139,7 @@ impl Source for Stored<'_> {
 
     ghost laws = { lawful (λ s. s.bytes.now) };
 
-    fn written(&self) -> Form {
+    fn written(&self) -> Language {
         Self::FORM
     }
 
@@ -168,7 +164,7 @@ impl Source for Stored<'_> {
     }
 
     fn scale(&self, at: usize) -> Scale {
-        self.follow(at).map_or(ZERO, Target::scale)
+        self.follow(at).map_or(Scale::ZERO, Target::scale)
     }
 
     fn inside(&self, at: usize) -> Span {
@@ -184,7 +180,7 @@ impl Source for Stored<'_> {
                 from,
                 to: from + body.len(),
             },
-            _ => Span { from: 0, to: 0 },
+            _ => Span::EMPTY,
         }
     }
 
@@ -202,14 +198,11 @@ impl Source for Stored<'_> {
 
     fn name(&self, at: usize) -> &[u8] {
         match header(self.bytes, at, self.bytes.len()) {
-            Some(frame) => frame.body(self.bytes),
+            Some(frame) => frame.body,
             None => &[],
         }
     }
 }
-
-// The most bytes of a sheet.
-const LONGEST_SHEET: usize = 65536;
 
 // A sheet's bytes, once they are found to be in order.
 pub fn read_stored(heap: Global, bytes: &[u8]) -> Result<Stored<'_>, Fault>

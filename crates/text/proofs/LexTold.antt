@@ -1,9 +1,10 @@
 -- What is found from a place on.
-use Rattle.std.proofs.Common.{◌≡◌, ℕ, ◌+◌, ◌-◌, ◌<◌, ◌≤◌, Bool, List, length, Ok, Err, Result, sym, refl, subst, arith}
+use Rattle.std.proofs.Common.{◌≡◌, ℕ, ◌+◌, ◌-◌, ◌<◌, ◌≤◌, Bool, List, ◌++◌, length, drop, Ok, Err, Result, sym, refl, subst, arith}
 use Rattle.text.specs.declared.fault.Fault.{Fault}
 use Rattle.text.specs.declared.fault.Fault.TheVariants.{BadText, TooDeep, NoSpace, RepeatedName, LongNumber, NoMemory}
 use Rattle.text.specs.declared.language.Language.{Language}
 use Rattle.text.specs.declared.token.Lexeme.{Lexeme}
+use Rattle.text.specs.declared.token.Token.{Token}
 use Rattle.text.specs.declared.token.Token.TheVariants.{End}
 use Rattle.text.specs.Places.{Placed, is_end}
 use Rattle.text.specs.declared.number.NumberKind.{NumberKind}
@@ -11,10 +12,10 @@ use Rattle.text.specs.NumberScan.{Found, Unfinished}
 use Rattle.text.specs.StringGrammar.{Reads}
 use Rattle.text.specs.StringDecode.{Scanned, Nothing}
 use Rattle.text.specs.TokenGrammar.{Mark}
-use Rattle.text.specs.TokenFound.{View, v_mark, v_number, v_text, v_end, view_of, Skipped, TokenAt, NoToken, TokenHere, FoundHere, NumeralTold, QuotedTold, TokenTold}
+use Rattle.text.specs.TokenFound.{View, v_mark, v_number, v_text, v_end, view_of, Skipped, TokenAt, NoToken, TokenHere, FoundHere, NumeralTold, QuotedTold, SpelledTold, TokenTold}
 use Rattle.text.specs.Cuts.{part}
 use Rattle.text.proofs.LexNumber.{scan_refused}
-use Rattle.text.proofs.LexBase.{torn}
+use Rattle.text.proofs.LexBase.{torn, begins_fits}
 
 pub told : (language : Language) (text : List ℕ) (at start : ℕ) (r : Result Lexeme Fault) → Skipped language text at start → TokenHere language text start r → TokenTold language text at r
 told language text at start (Ok l) s h = (subst (Skipped language text at) (sym h.0) s, h.1)
@@ -57,6 +58,11 @@ module _ (language : Language) (text : List ℕ) (i : ℕ) where
       let P : View → Type 0 = TokenAt language text i l.end in
       found_here l t.0 (subst P (sym t.1.2) (h l.end t.1.0 s)) (omega (arith, s.stands.forward))
   quoted_told h n (Err f) t = subst (λ (g : Fault). FoundHere language text i (Err g)) (sym t.0) (none_here (n t.1))
+
+  pub spelled_told : (word : List ℕ) (token : Token) → 0 < length word → (drop i text ≡ word ++ drop (i + length word) text → i + length word ≤ length text → TokenAt language text i (i + length word) (view_of token)) → (((r : List ℕ) → drop i text ≡ word ++ r → ⊥) → NoToken language text i)
+      → (r : Result Lexeme Fault) → SpelledTold text i word token r → FoundHere language text i r
+  spelled_told word token h t n (Ok l) s = rw s.0 (found_here _ refl (t s.1 (begins_fits text word i h s.1)) (omega arith))
+  spelled_told word token h t n (Err f) s = subst (λ (g : Fault). FoundHere language text i (Err g)) (sym s.0) (none_here (n s.1))
 
 -- a byte that is a mark
 pub one_mark : (R : ℕ → Mark → Type 0) {b k : ℕ} {m : Mark} → b ≡ k → R k m → (n : Mark) × R b n × (v_mark m ≡ v_mark n)

@@ -1,11 +1,12 @@
 -- One character of UTF-8.
-use Rattle.std.proofs.Common.{◌≡◌, ℕ, ◌+◌, ◌-◌, ◌*◌, ◌/◌, ◌%◌, ◌<◌, ◌≤◌, true, ◌⊎◌, List, [], ◌∷◌, ◌++◌, length, get_or, drop, sym, refl, ap, ◌∙◌, subst, inl, inr, ⊎_elim, add-one, arith, length-drop, get_or-drop, drop-cons}
+use Rattle.std.proofs.Common.{◌≡◌, ℕ, ◌+◌, ◌-◌, ◌*◌, ◌/◌, ◌%◌, ◌<◌, ◌≤◌, Bool, true, false, ◌⊎◌, List, [], ◌∷◌, ◌++◌, length, get_or, drop, sym, refl, ap, ◌∙◌, subst, inl, inr, ⊎_elim, add-one, arith, length-drop, get_or-drop, drop-cons}
 use lib.Utf8.{scalar, encode, next, low_scalar, scalar_cases}
 use Rattle.std.proofs.lemmas.Str.{encode_same}
 use Rattle.std.proofs.lemmas.Bool.Decides.{nat_tests}
+use Rattle.std.specs.Bool.{then_some}
 use Rattle.std.specs.Int.{IsInRange}
 use Rattle.text.specs.StringGrammar.{Utf8Char, utf8}
-use Rattle.text.specs.StringDecode.{Exactly}
+use Rattle.text.specs.StringDecode.{Exactly, Nothing, Told}
 
 pub drop_more : (text : List ℕ) (i j : ℕ) → i < length text → i + 1 ≡ j → drop i text ≡ get_or text i 0 ∷ drop j text
 drop_more text i j h e = drop-cons text i 0 h ∙ ap (λ k. get_or text i 0 ∷ drop k text) (sym (add-one i) ∙ e)
@@ -155,3 +156,8 @@ module _ (text : List ℕ) (at : ℕ) where
             ∙ ap (λ l'. get_or text (at + 1) 0 ∷ l') (drop_more text (at + 2) (at + 3) (omega arith) (omega arith)
             ∙ ap (λ l'. get_or text (at + 2) 0 ∷ l') (drop_more text (at + 3) (at + 4) (omega arith) (omega arith))))
             ∙ (λ k. p k ∷ q k ∷ r k ∷ t k ∷ drop (at + 4) text) ∙ ap (λ m. m ++ drop (at + 4) text) (sym (encode-four c least)))
+
+-- a character that is kept where it is as large as its bytes ask
+pub told_kept : {R : List ℕ → ℕ → List ℕ → Type 0} {text : List ℕ} {at : ℕ} (x : ℕ × ℕ) (b : Bool) → (b ≡ true → Exactly R text at x.0 x.1) → (b ≡ false → Nothing R text at) → Told R text at (then_some b x)
+told_kept x true t f = t refl
+told_kept x false t f = f refl

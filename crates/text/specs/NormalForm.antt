@@ -119,9 +119,9 @@ signed true n = neg_ℤ (pos n)
 signed false n = pos n
 
 -- the sign of an exponent, and where its digits begin
-pub record Led (text : List ℕ) (at : ℕ) (less : Bool) (from : ℕ) : Type 0 where
+pub record Led (text : List ℕ) (at : ℕ) (negative : Bool) (from : ℕ) : Type 0 where
   pub within : from ≤ length text
-  pub power : (e : ℕ) (p : ℤ) → Power (e ∷ drop at text) p → (p ≡ signed less (value (drop from text))) × Each (drop from text)
+  pub power : (e : ℕ) (p : ℤ) → Power (e ∷ drop at text) p → (p ≡ signed negative (value (drop from text))) × Each (drop from text)
 
 -- the value of an exponent, if it has at most six digits after leading zeros
 abbrev pub Powered : List ℕ → Option ℤ → Type 0

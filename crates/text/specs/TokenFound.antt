@@ -1,5 +1,5 @@
 -- What the functions on tokens promise.
-use Rattle.std.specs.Prelude.{◌≡◌, ℕ, ◌+◌, ◌-◌, ◌<◌, ◌≤◌, Bool, ◌⊎◌, List, length, drop, Some, None, Ok, Err, Option, Result, IfOk}
+use Rattle.std.specs.Prelude.{◌≡◌, ℕ, ◌+◌, ◌-◌, ◌<◌, ◌≤◌, Bool, ◌⊎◌, List, ◌++◌, length, drop, Some, None, Ok, Err, Option, Result, IfOk}
 use Rattle.text.specs.declared.fault.Fault.{Fault}
 use Rattle.text.specs.declared.fault.Fault.TheVariants.{BadText, TooDeep, NoSpace, RepeatedName, LongNumber, NoMemory}
 use Rattle.text.specs.declared.language.Language.{Language}
@@ -115,6 +115,11 @@ NumeralTold text start (Err f) = ScanRefused text start f
 abbrev pub QuotedTold : Language → List ℕ → ℕ → Result Lexeme Fault → Type 0
 QuotedTold language text start (Ok l) = (l.start ≡ start) × ((plain : Bool) × Scanned language text (start + 1) l.end plain × (view_of l.token ≡ v_text (part text (start + 1) (l.end - 1)) plain))
 QuotedTold language text start (Err f) = (f ≡ BadText start) × Nothing (Reads language) text (start + 1)
+
+-- the token that is spelled so, from start on, or that the word does not stand there
+abbrev pub SpelledTold : List ℕ → ℕ → List ℕ → Token → Result Lexeme Fault → Type 0
+SpelledTold text start word token (Ok l) = (l ≡ record { token = token; start = start; end = start + length word }) × (drop start text ≡ word ++ drop (start + length word) text)
+SpelledTold text start word token (Err f) = (f ≡ BadText start) × ((r : List ℕ) → drop start text ≡ word ++ r → ⊥)
 
 -- why no token is found from `at` on
 abbrev pub TokenRefused : Language → List ℕ → ℕ → Fault → Type 0

@@ -16,11 +16,13 @@ pub struct Scale {
     pub exponent: i32,
 }
 
-// The sign and the exponent of zero, whose digit is `0`.
-const ZERO: Scale = Scale {
-    negative: false,
-    exponent: 0,
-};
+impl Scale {
+    // Of zero, whose digit is `0`.
+    pub const ZERO: Scale = Scale {
+        negative: false,
+        exponent: 0,
+    };
+}
 
 // Where the parts of a number stand: its integer from `start` to `point`, the digits of its fraction from `places` to `mark`, and then its exponent.
 #[derive(Clone, Copy)]
@@ -75,9 +77,9 @@ fn power(text: &[u8], at: usize) -> Option<i32>
     if at >= text.len() {
         return Some(0);
     }
-    let (less, from) = lead(text, at + 1);
+    let (negative, from) = lead(text, at + 1);
     let size = size(&text[from..])? as i32;
-    Some(if less { -size } else { size })
+    Some(if negative { -size } else { size })
 }
 
 // Adds digits after those from `base` on, and no zero before the first other digit.
@@ -106,18 +108,13 @@ fn trimmed(digits: &[u8], from: usize) -> usize
     from + rest.len()
 }
 
-// Whether the number has a minus.
-fn minus(text: &[u8]) -> bool
-    ensures { Signs text.now result }
+// Whether the number has a minus, and where its digits begin.
+fn sign(text: &[u8]) -> (bool, usize)
+    ensures minus { Signs text.now result.0 }
+    ensures start { result.1 ≡ start_of result.0 }
 {
-    text.starts_with(b"-")
-}
-
-// Where the digits begin.
-fn begin(negative: bool) -> usize
-    ensures { result ≡ start_of negative }
-{
-    usize::from(negative)
+    let negative = text.starts_with(b"-");
+    (negative, usize::from(negative))
 }
 
 // Where the parts of the number stand that begins at `start`, after its minus if any.
@@ -156,13 +153,13 @@ pub fn normal(text: &[u8], out: &mut Vec<u8>) -> Result<Scale, Fault>
     if text.len() > LONGEST_NUMBER {
         return Err(Fault::LongNumber(0));
     }
-    let negative = minus(text);
+    let (negative, from) = sign(text);
     let Parts {
         start,
         point,
         places,
         mark,
-    } = locate(text, begin(negative));
+    } = locate(text, from);
     let power = power(text, mark).ok_or(Fault::LongNumber(0))?;
     let base = out.len();
     out.reserve(mark - start)?;
@@ -173,7 +170,7 @@ pub fn normal(text: &[u8], out: &mut Vec<u8>) -> Result<Scale, Fault>
     out.truncate(end);
     if end == base {
         out.push(b'0')?;
-        return Ok(ZERO);
+        return Ok(Scale::ZERO);
     }
     Ok(Scale {
         negative,
@@ -198,13 +195,12 @@ pub fn of_whole(text: &[u8]) -> (Scale, &[u8])
     ensures { OfWhole text.now result.0 result.1.now }
 {
     if text.len() > LONGEST_NUMBER {
-        return (ZERO, text);
+        return (Scale::ZERO, text);
     }
-    let negative = minus(text);
-    let start = begin(negative);
+    let (negative, start) = sign(text);
     let end = trimmed(text, start);
     if end == start {
-        return (ZERO, &text[start..]);
+        return (Scale::ZERO, &text[start..]);
     }
     let exponent = (text.len() - end) as i32;
     (Scale { negative, exponent }, &text[start..end])

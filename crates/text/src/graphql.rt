@@ -2,7 +2,7 @@
 ghost use Rattle.std.specs.Prelude.{◌≡◌, ◌+◌, ◌<◌, ◌≤◌, length, IfOk, MatchBool, slice_index};
 ghost use Rattle.text.specs.Places.{Placed, is_end};
 ghost use Rattle.text.specs.StringGrammar.{LineTerminator};
-ghost use Rattle.text.specs.TokenGrammar.{NumberFirst, NumberGoesOn, NameStart, NameContinue, CommentCode, CommentChar, Comment, IgnoredByte, ByteOrderMark, GraphqlIgnored, Punctuator};
+ghost use Rattle.text.specs.TokenGrammar.{NumberFirst, NumberGoesOn, NameStart, NameContinue, CommentChar, Comment, IgnoredByte, ByteOrderMark, GraphqlIgnored, Punctuator};
 ghost use Rattle.text.specs.TokenFound.{Skipped, StepTold, MarkTold, NameEnd, FoundHere, TokenTold};
 ghost use Rattle.text.specs.declared.language.Language.TheVariants.{Graphql};
 
@@ -15,19 +15,12 @@ use crate::{string, token};
 
 const BYTE_ORDER_MARK: char = '\u{FEFF}';
 
-// Whether a character can stand in a comment.
-fn comment_code(c: char) -> bool
-    ensures { MatchBool result (CommentCode c) (CommentCode c → ⊥) }
-{
-    matches!(c, '\t' | ' '..='\u{FFFF}')
-}
-
 // The end of the character of a comment at `at`.
 fn comment_char(text: &[u8], at: usize) -> Option<usize>
     ensures { StepTold CommentChar text.now at result }
 {
     let (c, end) = string::character(text, at)?;
-    comment_code(c).then_some(end)
+    string::within_line(c).then_some(end)
 }
 
 fn ends_line(byte: u8) -> bool
@@ -92,13 +85,13 @@ fn skip(text: &[u8], at: usize) -> usize
 fn begins_name(byte: u8) -> bool
     ensures { MatchBool result (NameStart byte) (NameStart byte → ⊥) }
 {
-    matches!(byte, b'_' | b'A'..=b'Z' | b'a'..=b'z')
+    byte == b'_' || byte.is_ascii_alphabetic()
 }
 
 fn continues_name(byte: u8) -> bool
     ensures { MatchBool result (NameContinue byte) (NameContinue byte → ⊥) }
 {
-    matches!(byte, b'_' | b'A'..=b'Z' | b'a'..=b'z' | b'0'..=b'9')
+    begins_name(byte) || byte.is_ascii_digit()
 }
 
 // The end of the name that begins at `start`.
@@ -126,10 +119,10 @@ fn name(text: &[u8], start: usize) -> Result<Lexeme<'_>, Fault>
 }
 
 // Whether a byte may not follow a number.
-fn goes_on(byte: u8) -> bool
+fn barred_after_number(byte: u8) -> bool
     ensures { MatchBool result (NumberGoesOn byte) (NumberGoesOn byte → ⊥) }
 {
-    matches!(byte, b'0'..=b'9' | b'.' | b'_' | b'A'..=b'Z' | b'a'..=b'z')
+    byte == b'.' || continues_name(byte)
 }
 
 // The number that begins at `start`; no digit, point or name may follow it.
@@ -139,7 +132,7 @@ fn numeral(text: &[u8], start: usize) -> Result<Lexeme<'_>, Fault>
 {
     let number = token::numeral(text, start)?;
     let end = number.end;
-    if end < text.len() && goes_on(text[end]) {
+    if end < text.len() && barred_after_number(text[end]) {
         return Err(Fault::BadText(start));
     }
     Ok(number)
@@ -154,21 +147,6 @@ fn quoted(text: &[u8], start: usize) -> Result<Lexeme<'_>, Fault>
         return Err(Fault::BadText(start));
     }
     token::quoted(text, start, Language::Graphql)
-}
-
-// The three points that begin at `start`.
-fn spread(text: &[u8], start: usize) -> Result<Lexeme<'_>, Fault>
-    requires { (start < length text.now) × (slice_index text.now start ≡ 46) }
-    ensures { FoundHere Graphql text.now start result }
-{
-    if !text[start..].starts_with(b"...") {
-        return Err(Fault::BadText(start));
-    }
-    Ok(Lexeme {
-        token: Token::Spread,
-        start,
-        end: start + 3,
-    })
 }
 
 // The punctuator that a byte is.
@@ -212,7 +190,7 @@ fn token_at(text: &[u8], start: usize) -> Result<Lexeme<'_>, Fault>
     }
     match byte {
         b'"' => quoted(text, start),
-        b'.' => spread(text, start),
+        b'.' => token::spelled(text, start, b"...", Token::Spread),
         _ => Err(Fault::BadText(start)),
     }
 }

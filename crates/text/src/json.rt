@@ -8,7 +8,7 @@ ghost use Rattle.text.specs.declared.language.Language.TheVariants.{Json};
 use crate::fault::Fault;
 use crate::language::Language;
 use crate::run::run_end;
-use crate::token::{Lexeme, Token, begins_number, numeral, quoted};
+use crate::token::{Lexeme, Token, begins_number, numeral, quoted, spelled};
 
 fn white_space(byte: u8) -> bool
     ensures { MatchBool result (WhiteSpace byte) (WhiteSpace byte → ⊥) }
@@ -39,21 +39,13 @@ fn structural<'a>(byte: u8) -> Option<Token<'a>>
 }
 
 // The literal name that begins at `start`, if it is `word`.
-fn literal<'a>(text: &'a [u8], start: usize, word: &[u8]) -> Result<Lexeme<'a>, Fault>
+fn literal<'a>(text: &[u8], start: usize, word: &'a [u8]) -> Result<Lexeme<'a>, Fault>
     requires start_in_bounds { start < length text.now }
     requires literal_name { LiteralName word.now }
     requires start_value { slice_index text.now start ≡ slice_index word.now 0 }
     ensures { FoundHere Json text.now start result }
 {
-    if !text[start..].starts_with(word) {
-        return Err(Fault::BadText(start));
-    }
-    let end = start + word.len();
-    Ok(Lexeme {
-        token: Token::Name(&text[start..end]),
-        start,
-        end,
-    })
+    spelled(text, start, word, Token::Name(word))
 }
 
 // The token that begins at `start`.

@@ -1,6 +1,7 @@
 // Characters, and the strings of JSON and GraphQL.
 ghost use Rattle.std.specs.Prelude.{◌<◌, ◌≤◌, length, MatchBool, slice_index};
 ghost use Rattle.text.specs.StringGrammar.{Utf8Char, Code, Escape, Unescaped, Char};
+ghost use Rattle.text.specs.TokenGrammar.{CommentCode};
 ghost use Rattle.text.specs.StringDecode.{Told, SixTold, HexTold, Hex4Told, LowTold, PutTold, AddTold, DecodeTold, ScanTold};
 
 use crate::fault::Fault;
@@ -40,11 +41,8 @@ fn three(text: &[u8], at: usize) -> Option<(char, usize)>
     let y = six(text, at + 1)?;
     let z = six(text, at + 2)?;
     let code = u32::from(text[at] - 0xE0) * 0x1000 + y * 0x40 + z;
-    if code < 0x800 {
-        return None;
-    }
     let c = char::from_u32(code)?;
-    Some((c, at + 3))
+    (c >= '\u{800}').then_some((c, at + 3))
 }
 
 // The character of four bytes at `at`, and where it ends.
@@ -56,11 +54,8 @@ fn four(text: &[u8], at: usize) -> Option<(char, usize)>
     let z = six(text, at + 2)?;
     let w = six(text, at + 3)?;
     let code = u32::from(text[at] - 0xF0) * 0x40000 + y * 0x1000 + z * 0x40 + w;
-    if code < 0x10000 {
-        return None;
-    }
     let c = char::from_u32(code)?;
-    Some((c, at + 4))
+    (c >= '\u{10000}').then_some((c, at + 4))
 }
 
 // The UTF-8 character at `at`, and where it ends.
@@ -83,12 +78,11 @@ fn hex(b: u8) -> Option<u32>
     char::from(b).to_digit(16)
 }
 
-// The value of the four hexadecimal digits at `at`.
-fn hex4(text: &[u8], at: usize) -> Option<u32>
-    requires { at ≤ length text.now }
-    ensures { Hex4Told text.now at result }
+// The value of the first four bytes, if they are hexadecimal digits.
+fn hex4(text: &[u8]) -> Option<u32>
+    ensures { Hex4Told text.now 0 result }
 {
-    let &[a, b, c, d, ..] = &text[at..] else {
+    let &[a, b, c, d, ..] = text else {
         return None;
     };
     let (a, b, c, d) = (hex(a)?, hex(b)?, hex(c)?, hex(d)?);
@@ -100,14 +94,9 @@ fn low_surrogate(text: &[u8], at: usize) -> Option<u32>
     requires { at ≤ length text.now }
     ensures { LowTold text.now at result }
 {
-    if !text[at..].starts_with(b"\\u") {
-        return None;
-    }
-    let low = hex4(text, at + 2)?;
-    if low < FIRST_LOW || low > LAST_LOW {
-        return None;
-    }
-    Some(low)
+    let digits = text[at..].strip_prefix(b"\\u")?;
+    let low = hex4(digits)?;
+    (FIRST_LOW..=LAST_LOW).contains(&low).then_some(low)
 }
 
 // The character whose digits follow `\u` at `at`, and where it ends.
@@ -115,7 +104,7 @@ fn unicode(text: &[u8], at: usize) -> Option<(char, usize)>
     requires { at ≤ length text.now }
     ensures { Told Code text.now at result }
 {
-    let high = hex4(text, at)?;
+    let high = hex4(&text[at..])?;
     if let Some(c) = char::from_u32(high) {
         return Some((c, at + 4));
     }
@@ -146,15 +135,21 @@ fn escape(text: &[u8], at: usize) -> Option<(char, usize)>
     }
 }
 
+// Whether a character of GraphQL's source can stand within a line.
+pub(crate) fn within_line(c: char) -> bool
+    ensures { MatchBool result (CommentCode c) (CommentCode c → ⊥) }
+{
+    matches!(c, '\t' | ' '..='\u{FFFF}')
+}
+
 // Whether a character stands in a string as it is.
 fn unescaped(c: char, language: Language) -> bool
     ensures { MatchBool result (Unescaped language c) (Unescaped language c → ⊥) }
 {
     match (language, c) {
         (_, '"' | '\\') => false,
-        (Language::Json, ' '..) => true,
-        (Language::Graphql, '\t' | ' '..='\u{FFFF}') => true,
-        _ => false,
+        (Language::Json, _) => c >= ' ',
+        (Language::Graphql, _) => within_line(c),
     }
 }
 

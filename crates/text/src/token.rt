@@ -1,7 +1,7 @@
 // Tokens, each a part of its text.
-ghost use Rattle.std.specs.Prelude.{◌≡◌, ◌+◌, ◌<◌, length, MatchBool};
+ghost use Rattle.std.specs.Prelude.{◌≡◌, ◌+◌, ◌<◌, ◌≤◌, length, MatchBool};
 ghost use Rattle.text.specs.TokenGrammar.{NumberFirst};
-ghost use Rattle.text.specs.TokenFound.{view_of, v_number, NumeralTold, QuotedTold, OneToken};
+ghost use Rattle.text.specs.TokenFound.{view_of, v_number, NumeralTold, QuotedTold, SpelledTold, OneToken};
 ghost use Rattle.text.specs.declared.token.Token.TheVariants.{End};
 
 use crate::fault::Fault;
@@ -102,6 +102,26 @@ pub(crate) fn quoted(text: &[u8], start: usize, language: Language) -> Result<Le
         token: Token::Text { raw, plain },
         start,
         end,
+    })
+}
+
+// The token that is spelled `word`, if that begins at `start`.
+pub(crate) fn spelled<'a>(
+    text: &[u8],
+    start: usize,
+    word: &[u8],
+    token: Token<'a>,
+) -> Result<Lexeme<'a>, Fault>
+    requires { start ≤ length text.now }
+    ensures { SpelledTold text.now start word.now token.entry result }
+{
+    if !text[start..].starts_with(word) {
+        return Err(Fault::BadText(start));
+    }
+    Ok(Lexeme {
+        token,
+        start,
+        end: start + word.len(),
     })
 }
 

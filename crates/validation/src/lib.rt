@@ -9,6 +9,7 @@ pub mod fault;
 mod tests;
 
 use fault::MakeFault;
+use lookup::{Lookup, Named, Table};
 use schema::definition::Schema;
 use schema::operation::Operation;
 use schema::types::Base;
@@ -22,9 +23,7 @@ pub fn make_schema(heap: Global, text: &[u8]) -> Result<Schema<'_>, MakeFault>
     ensures { IfOk result (λ s. vec_len s.scalars ≤ 256) }
 {
     let schema = definition::read_schema(heap, text)?;
-    if let Some(place) = repeated_scalar(&schema) {
-        return Err(MakeFault::Text(Fault::RepeatedName(place)));
-    }
+    scalars_differ(&schema)?;
     Ok(schema)
 }
 
@@ -37,61 +36,75 @@ pub fn make_operation<'a>(
     ensures { IfOk result (λ o. vec_len o.variables ≤ 64) }
 {
     let operation = operation::read_operation(heap, schema, text)?;
-    let repeated = repeated_variable(&operation)
-        .into_iter()
-        .chain(operation.tree.repeated_member())
-        .min();
-    if let Some(place) = repeated {
-        return Err(MakeFault::Text(Fault::RepeatedName(place)));
-    }
-    if let Some(place) = unknown_type(&operation) {
-        return Err(MakeFault::UnknownType(place));
-    }
-    if let Some(place) = bad_default(&operation) {
-        return Err(MakeFault::BadDefault(place));
-    }
+    names_differ(&operation)?;
+    types_are_known(&operation)?;
+    defaults_fit(&operation)?;
     Ok(operation)
 }
 
-// The place of the first scalar's name that is built in, or that an earlier scalar has.
-fn repeated_scalar(schema: &Schema<'_>) -> Option<usize> {
-    schema
-        .scalars
+// The first record whose name an earlier one has.
+fn repeated<R: Named>(records: &[R]) -> Option<&R> {
+    let table = Table::new(records);
+    records
         .iter()
         .enumerate()
-        .find(|(i, scalar)| {
-            definition::built_in(scalar.name).is_some() || schema.find(scalar.name) != Some(*i)
-        })
-        .map(|(_, scalar)| scalar.place)
+        .find(|(i, record)| table.find(record.name()) != Some(*i))
+        .map(|(_, record)| record)
 }
 
-// The place of the first variable's name that an earlier variable has.
-fn repeated_variable(operation: &Operation<'_>) -> Option<usize> {
-    operation
-        .variables
+// Refuses the name at the place, if there is one.
+fn no_repeated(place: Option<usize>) -> Result<(), Fault> {
+    match place {
+        Some(place) => Err(Fault::RepeatedName(place)),
+        None => Ok(()),
+    }
+}
+
+// No scalar's name is built in or an earlier scalar's.
+fn scalars_differ(schema: &Schema<'_>) -> Result<(), Fault> {
+    let scalars = schema.scalars.as_slice();
+    let built_in = scalars
         .iter()
-        .enumerate()
-        .find(|(i, variable)| operation.find(variable.name) != Some(*i))
-        .map(|(_, variable)| variable.name_place)
+        .find(|scalar| definition::built_in(scalar.name).is_some());
+    let place = built_in
+        .into_iter()
+        .chain(repeated(scalars))
+        .map(|scalar| scalar.place)
+        .min();
+    no_repeated(place)
 }
 
-// The place of the first type's name that stands for nothing.
-fn unknown_type(operation: &Operation<'_>) -> Option<usize> {
-    operation
-        .variables
-        .iter()
-        .map(|variable| variable.ty)
-        .find(|ty| ty.shape.base == Base::Unknown)
-        .map(|ty| ty.place)
+// No variable's name is an earlier variable's, and no object in a default has a name twice.
+fn names_differ(operation: &Operation<'_>) -> Result<(), Fault> {
+    let variable = repeated(operation.variables.as_slice()).map(|variable| variable.name_place);
+    let place = variable
+        .into_iter()
+        .chain(operation.tree.repeated_member())
+        .min();
+    no_repeated(place)
 }
 
-// The place of the first default that holds a variable or does not fit its type.
-fn bad_default(operation: &Operation<'_>) -> Option<usize> {
+// Each type's name stands for something.
+fn types_are_known(operation: &Operation<'_>) -> Result<(), MakeFault> {
+    for variable in operation.variables.iter() {
+        let ty = variable.ty;
+        if ty.shape.base == Base::Unknown {
+            return Err(MakeFault::UnknownType(ty.place));
+        }
+    }
+    Ok(())
+}
+
+// Each default fits its type, and holds no variable.
+fn defaults_fit(operation: &Operation<'_>) -> Result<(), MakeFault> {
     let tree = &operation.tree;
-    operation.variables.iter().find_map(|variable| {
-        let at = variable.default?;
-        let literal = operation.literal(at);
-        let bad = tree.holds_variable(at) || !defaults::fits(&literal, at, variable.ty.shape);
-        bad.then_some(tree.place(at))
-    })
+    for variable in operation.variables.iter() {
+        if let Some(at) = variable.default {
+            let literal = operation.literal(at);
+            if tree.holds_variable(at) || !defaults::fits(&literal, at, variable.ty.shape) {
+                return Err(MakeFault::BadDefault(tree.place(at)));
+            }
+        }
+    }
+    Ok(())
 }

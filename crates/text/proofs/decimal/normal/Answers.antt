@@ -9,16 +9,16 @@ use Rattle.text.proofs.decimal.normal.Goals.{After-locate-start, In_ok-power, Af
 use Rattle.text.proofs.decimal.normal.Goals as goal
 use Rattle.text.specs.Cuts.{part}
 
-align : (c : After-locate-start) (n : Bool) (a : ℕ) (s : ℤ) (w : Writes c.args.text.now n a s) → Aligned c.args.text.now c.minus-negative.result c.locate-start.result n w.i w.ds w.e
-align c = aligned c.args.text.now c.minus-negative.result c.begin.result c.locate-start.result c.minus-negative.ensures c.begin.ensures c.locate-start.ensures
+align : (c : After-locate-start) (n : Bool) (a : ℕ) (s : ℤ) (w : Writes c.args.text.now n a s) → Aligned c.args.text.now c.sign-negative.result.0 c.locate-start.result n w.i w.ds w.e
+align c = aligned c.args.text.now c.sign-negative.result.0 c.sign-negative.result.1 c.locate-start.result c.sign-negative.ensures.minus c.sign-negative.ensures.start c.locate-start.ensures
 
 -- the exponent that is written
-power_is : (c : In_ok-power) (n : Bool) (a : ℕ) (s : ℤ) (w : Writes c.args.text.now n a s) → Aligned c.args.text.now c.minus-negative.result c.locate-start.result n w.i w.ds w.e → (nat_abs c.in_ok-power.power < 1000000) × (c.in_ok-power.power ≡ w.p)
+power_is : (c : In_ok-power) (n : Bool) (a : ℕ) (s : ℤ) (w : Writes c.args.text.now n a s) → Aligned c.args.text.now c.sign-negative.result.0 c.locate-start.result n w.i w.ds w.e → (nat_abs c.in_ok-power.power < 1000000) × (c.in_ok-power.power ≡ w.p)
 power_is c n a s w x =
     let t = subst (Powered (drop c.locate-start.result.mark c.args.text.now)) c.in_ok-power.ensures.ok_part c.power.ensures in
     (t.0, t.1 w.p (subst (λ (k : List ℕ). Power k w.p) (sym x.power) w.power))
 
-within : (c : In_ok-power) (l : (n : Bool) (a : ℕ) (s : ℤ) (w : Writes c.args.text.now n a s) → Aligned c.args.text.now c.minus-negative.result c.locate-start.result n w.i w.ds w.e) → Within c.args.text.now
+within : (c : In_ok-power) (l : (n : Bool) (a : ℕ) (s : ℤ) (w : Writes c.args.text.now n a s) → Aligned c.args.text.now c.sign-negative.result.0 c.locate-start.result n w.i w.ds w.e) → Within c.args.text.now
 within c l = record {
   short = omega (arith, c.if-text-gt-LONGEST_NUMBER.false);
   small = λ n a s w. let t = power_is c n a s w (l n a s w) in subst (λ (k : ℤ). nat_abs k < 1000000) t.1 t.0;
@@ -75,7 +75,7 @@ returns c =
     let stands = c.locate-start.ensures in
     let more : c.len-base.result < c.trimmed-end.result = omega (arith, c.trimmed-end.ensures.forward, c.if-end-base.false) in
     let settle = place at.After-truncate in
-    added_some c.args.text.now (vec_items c.args.out.now) (vec_items c.truncate.new.self) c.len-base.result c.trimmed-end.result _ _ c.minus-negative.result _
+    added_some c.args.text.now (vec_items c.args.out.now) (vec_items c.truncate.new.self) c.len-base.result c.trimmed-end.result _ _ c.sign-negative.result.0 _
     settle more
     (within at.In_ok-power (align at.After-locate-start))
     (λ n a s w.

@@ -5,7 +5,7 @@ use Rattle.text.specs.declared.language.Language.TheVariants.{Graphql}
 use Rattle.text.proofs.LexNumber.{scan_refused}
 use Rattle.text.proofs.LexTold.{found_here, none_here}
 use Rattle.text.proofs.LexGraphql.{number_here, no_number, number_goes_on}
-use Rattle.text.proofs.graphql.numeral.Goals.{Joined-else-end-text, else-end-text-via-then-end-text+else-goes_on, else-end-text-via-else-end-text}
+use Rattle.text.proofs.graphql.numeral.Goals.{Joined-else-end-text, else-end-text-via-then-end-text+else-barred_after_number, else-end-text-via-else-end-text}
 use Rattle.text.proofs.graphql.numeral.Goals as goal
 
 pub returns-in_err-number : goal.returns-in_err-number
@@ -17,13 +17,13 @@ returns-in_err-number c =
       placed = tt;
     })
 
-pub returns-then-goes_on : goal.returns-then-goes_on
-returns-then-goes_on c =
+pub returns-then-barred_after_number : goal.returns-then-barred_after_number
+returns-then-barred_after_number c =
     let t = c.in_ok-number.ensures in
-    none_here Graphql c.args.text.now c.args.start (number_goes_on c.args.text.now c.args.start c.in_ok-number.number.end t.1.0 t.1.1 c.if-end-text.true c.if-goes_on.ensures)
+    none_here Graphql c.args.text.now c.args.start (number_goes_on c.args.text.now c.args.start c.in_ok-number.number.end t.1.0 t.1.1 c.if-end-text.true c.if-barred_after_number.ensures)
 
 stops : (c : Joined-else-end-text) → c.in_ok-number.number.end < length c.args.text.now → NumberGoesOn (get_or c.args.text.now c.in_ok-number.number.end 0) → ⊥
-stops c = elim c.else-end-text.branch [ else-end-text-via-then-end-text+else-goes_on w ↦ λ h. w.if-goes_on.ensures | else-end-text-via-else-end-text w ↦ λ h g. omega arith ]
+stops c = elim c.else-end-text.branch [ else-end-text-via-then-end-text+else-barred_after_number w ↦ λ h. w.if-barred_after_number.ensures | else-end-text-via-else-end-text w ↦ λ h g. omega arith ]
 
 pub returns : goal.returns
 returns c =

@@ -1,8 +1,8 @@
-use Rattle.std.proofs.Common.{ℕ, refl, sym, subst, arith}
+use Rattle.std.proofs.Common.{ℕ, [], ◌∷◌, refl, sym, ◌∙◌, subst, arith}
 use Rattle.text.specs.TokenGrammar.{Punctuator, NumberFirst, NameStart}
 use Rattle.text.specs.declared.language.Language.TheVariants.{Graphql}
-use Rattle.text.proofs.LexTold.{found_here, end_here as text_end, none_here}
-use Rattle.text.proofs.LexGraphql.{end_here, mark_here, no_token}
+use Rattle.text.proofs.LexTold.{found_here, end_here as text_end, none_here, spelled_told}
+use Rattle.text.proofs.LexGraphql.{end_here, mark_here, spread_here, no_spread, no_token}
 use Rattle.text.proofs.graphql.token_at.Goals as goal
 
 pub returns-in_default : goal.returns-in_default
@@ -14,6 +14,12 @@ returns-in-Some-punctuator c =
     let b = c.in-Some.ensures.lookup.3 in
     let s = subst (λ (k : ℕ). Punctuator k e.0) (b.1 0) e.1 in
     rw c.mark.ensures (found_here Graphql c.args.text.now c.args.start _ refl (mark_here c.args.text.now c.args.start e.0 _ b.0 s e.2) (omega arith))
+
+pub returns-in-46 : goal.returns-in-46
+returns-in-46 c =
+    let b = c.in-Some.ensures.lookup.3 in
+    let q = sym (b.1 0) ∙ c.in-46.is in
+    spelled_told Graphql c.args.text.now c.args.start (46 ∷ 46 ∷ 46 ∷ []) _ (omega arith) (spread_here c.args.text.now c.args.start) (no_spread c.args.text.now c.args.start b.0 q) c.spelled.result c.spelled.ensures
 
 pub returns-in_default-byte : goal.returns-in_default-byte
 returns-in_default-byte c =

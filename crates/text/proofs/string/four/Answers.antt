@@ -1,5 +1,6 @@
-use Rattle.std.proofs.Common.{⊎_elim, arith}
-use Rattle.text.proofs.StrUtf8.{by_four, utf8_four}
+use Rattle.std.proofs.Common.{◌+◌, ⊎_elim, arith}
+use Rattle.std.proofs.lemmas.Bool.Decides.{nat_tests}
+use Rattle.text.proofs.StrUtf8.{by_four, utf8_four, told_kept}
 use Rattle.text.proofs.string.four.Goals as goal
 
 pub returns-in_err-y : goal.returns-in_err-y
@@ -17,11 +18,6 @@ returns-in_err-w c = rw c.from_residual-in_err-w.ensures (λ y r u.
     let p = by_four c.args.text.now c.args.at u (omega arith) in
     omega (arith, c.in_err-w.ensures (omega arith) (omega arith)))
 
-pub returns-then-code-lt65536 : goal.returns-then-code-lt65536
-returns-then-code-lt65536 c y r u =
-    let p = by_four c.args.text.now c.args.at u (omega arith) in
-    omega (arith, c.in_ok-y.ensures, c.in_ok-z.ensures, c.in_ok-w.ensures)
-
 pub returns-in_err-c : goal.returns-in_err-c
 returns-in_err-c c = rw c.from_residual-in_err-c.ensures (λ y r u.
     let p = by_four c.args.text.now c.args.at u (omega arith) in
@@ -36,5 +32,7 @@ returns c =
     let z = c.in_ok-z.ensures in
     let w = c.in_ok-w.ensures in
     let k = c.in_ok-c.ensures.value in
-    utf8_four c.args.text.now c.args.at c.in_ok-y.y y.1 y.2 c.in_ok-z.z z.1 z.2 c.in_ok-w.w w.1 w.2 c.in_ok-c.c
-    (omega arith) (omega arith) (omega arith) (omega arith) (rw k.1 k.0)
+    rw c.then_some.ensures
+    (told_kept (c.in_ok-c.c, c.args.at + 4) _
+    (λ t. utf8_four c.args.text.now c.args.at c.in_ok-y.y y.1 y.2 c.in_ok-z.z z.1 z.2 c.in_ok-w.w w.1 w.2 c.in_ok-c.c (omega arith) (omega arith) (omega arith) (grind (arith, nat_tests)) (rw k.1 k.0))
+    (λ f e r u. let p = by_four c.args.text.now c.args.at u (omega arith) in grind (arith, nat_tests)))

@@ -51,40 +51,40 @@ value-returns-in_err-frame-clause-told t c =
 pub value-returns-in-Err-clause-told : goal.value-returns-in-Err-clause-told
 value-returns-in-Err-clause-told t c =
     let f = found c.in_ok-frame.ensures.ok_part c.header.ensures in
-    rw c.at.ensures (unfit c.args.levels c.in-Err.error f (content_told _ _ c.in-Err.is c.body.ensures c.holds.ensures))
+    rw c.at.ensures (unfit c.args.levels c.in-Err.error f (content_told _ _ c.in-Err.is f.whole c.holds.ensures))
 
 pub value-returns-then-levels-eq0-clause-told : goal.value-returns-then-levels-eq0-clause-told
 value-returns-then-levels-eq0-clause-told t c =
     let f = found c.in_ok-frame.ensures.ok_part c.header.ensures in
-    r_deep f.framed (sensible _ _ c.in-Ok.content (content_told _ _ c.in-Ok.is c.body.ensures c.holds.ensures)) c.if-levels-eq0.true
+    r_deep f.framed (sensible _ _ c.in-Ok.content (content_told _ _ c.in-Ok.is f.whole c.holds.ensures)) c.if-levels-eq0.true
 
 pub value-returns-in_err-items-in-List-clause-told : goal.value-returns-in_err-items-in-List-clause-told
 value-returns-in_err-items-in-List-clause-told t c =
     let f = found c.in_ok-frame.ensures.ok_part c.header.ensures in
-    let k = content_told _ _ (c.in-Ok.is ∙ ap Ok c.in-List.is) refl c.holds.ensures in
+    let k = content_told _ _ (c.in-Ok.is ∙ ap Ok c.in-List.is) f.whole c.holds.ensures in
     let p = err_from_is_err_and c.from_residual-in_err-items-in-List.result c.from_residual-in_err-items-in-List.ensures.1 in
     rw (p.1, p.2) (list_blamed f (omega arith) k _ c.in_err-items-in-List.ensures.told)
 
 pub value-returns-in_err-members-in-Object-clause-told : goal.value-returns-in_err-members-in-Object-clause-told
 value-returns-in_err-members-in-Object-clause-told t c =
     let f = found c.in_ok-frame.ensures.ok_part c.header.ensures in
-    let k = content_told _ _ (c.in-Ok.is ∙ ap Ok c.in-Object.is) refl c.holds.ensures in
+    let k = content_told _ _ (c.in-Ok.is ∙ ap Ok c.in-Object.is) f.whole c.holds.ensures in
     let p = err_from_is_err_and c.from_residual-in_err-members-in-Object.result c.from_residual-in_err-members-in-Object.ensures.1 in
     rw (p.1, p.2) (object_blamed f (omega arith) k _ c.in_err-members-in-Object.ensures.told)
 
 pub value-returns-in-Leaf-clause-told : goal.value-returns-in-Leaf-clause-told
 value-returns-in-Leaf-clause-told t c =
     let f = found c.in_ok-frame.ensures.ok_part c.header.ensures in
-    (leaf_read f (omega arith) (content_told _ _ (c.in-Ok.is ∙ ap Ok c.in-Leaf.is) c.body.ensures c.holds.ensures), refl)
+    (leaf_read f (omega arith) (content_told _ _ (c.in-Ok.is ∙ ap Ok c.in-Leaf.is) f.whole c.holds.ensures), refl)
 
 pub value-returns-in_ok-items-in-List-clause-told : goal.value-returns-in_ok-items-in-List-clause-told
 value-returns-in_ok-items-in-List-clause-told t c =
     let f = found c.in_ok-frame.ensures.ok_part c.header.ensures in
-    let k = content_told _ _ (c.in-Ok.is ∙ ap Ok c.in-List.is) refl c.holds.ensures in
+    let k = content_told _ _ (c.in-Ok.is ∙ ap Ok c.in-List.is) f.whole c.holds.ensures in
     (list_read f (omega arith) k c.in_ok-items-in-List.ensures.told.0, c.in_ok-items-in-List.ensures.told.1)
 
 pub value-returns-in_ok-members-in-Object-clause-told : goal.value-returns-in_ok-members-in-Object-clause-told
 value-returns-in_ok-members-in-Object-clause-told t c =
     let f = found c.in_ok-frame.ensures.ok_part c.header.ensures in
-    let k = content_told _ _ (c.in-Ok.is ∙ ap Ok c.in-Object.is) refl c.holds.ensures in
+    let k = content_told _ _ (c.in-Ok.is ∙ ap Ok c.in-Object.is) f.whole c.holds.ensures in
     (object_read f (omega arith) k c.in_ok-members-in-Object.ensures.told.0, c.in_ok-members-in-Object.ensures.told.1)

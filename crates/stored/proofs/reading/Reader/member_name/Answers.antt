@@ -19,11 +19,11 @@ returns-then-not-is_name-clause-told c d h =
     m_unnamed h
     (elim c.then-not-is_name.branch [
       | then-not-is_name-via-then-not-is_name w ↦ other_kind f c.is_name.ensures w.if-not-is_name.true
-      | then-not-is_name-via-else-not-is_name+then-not-name_form w ↦ not_formed f w.body.ensures w.name_form.ensures w.if-not-name_form.true
+      | then-not-is_name-via-else-not-is_name+then-not-name_form w ↦ not_formed f f.whole w.name_form.ensures w.if-not-name_form.true
     ])
 
 pub returns-then-not-added-clause-told : goal.returns-then-not-added-clause-told
 returns-then-not-added-clause-told c d h =
     let f = found c.in_ok-frame.ensures.ok_part c.header.ensures in
-    m_repeated h (name_at f (c.is_name.ensures.0 c.if-not-is_name.false) c.body.ensures c.name_form.ensures c.if-not-name_form.false)
+    m_repeated h (name_at f (c.is_name.ensures.0 c.if-not-is_name.false) f.whole c.name_form.ensures c.if-not-name_form.false)
     (has_it c.args.self.now.bytes.now c.args.base (vec_items c.args.self.now.names.links) (vec_items c.add.new.self.links) c.in_ok-frame.frame c.in_ok-added.added c.if-not-added.true c.in_ok-added.ensures f.forward f.inside c.requires.sound)
