@@ -86,9 +86,6 @@ pub struct Schema<'a> {
     pub tree: Tree<'a>,
 }
 
-// In a type with neither values nor fields.
-pub(crate) const NOTHING: Span = Span { from: 0, to: 0 };
-
 // The records that stand in the span; none where it does not stand.
 pub fn between<R>(records: &[R], span: Span) -> &[R] {
     records.get(span.from..span.to).unwrap_or(&[])
@@ -130,7 +127,7 @@ impl<'a> Schema<'a> {
 
     // Where the values or fields of a declared type stand; those of none nowhere.
     fn inside(&self, index: usize) -> Span {
-        self.types.get(index).map_or(NOTHING, |ty| ty.inside)
+        self.types.get(index).map_or(Span::EMPTY, |ty| ty.inside)
     }
 
     // The values of an enum.

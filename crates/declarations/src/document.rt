@@ -3,8 +3,7 @@ ghost use Rattle.std.specs.Prelude.{◌≡◌, ◌≤◌, IfOk, vec_len};
 ghost use Rattle.schema.specs.Reading.{Onward};
 
 use crate::definition::{
-    EnumValue, Field, MOST_FIELDS, MOST_TYPES, MOST_VALUES, NOTHING, Schema, TypeDef, TypeKind,
-    base_among,
+    EnumValue, Field, MOST_FIELDS, MOST_TYPES, MOST_VALUES, Schema, TypeDef, TypeKind, base_among,
 };
 use schema::declaration;
 use schema::declaration::Declaration;
@@ -107,7 +106,7 @@ fn contents<'a>(
                 to: schema.fields.len(),
             })
         }
-        TypeKind::Scalar | TypeKind::Output => Ok(NOTHING),
+        TypeKind::Scalar | TypeKind::Output => Ok(Span::EMPTY),
     }
 }
 
