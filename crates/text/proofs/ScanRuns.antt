@@ -1,6 +1,6 @@
 -- The run of the scanner over bytes, against the grammar.
-use Rattle.std.proofs.Common.{◌≡◌, ℕ, ◌+◌, ◌-◌, ◌*◌, ◌<◌, ◌≤◌, ◌⊎◌, List, [], ◌∷◌, ◌++◌, length, get_or, take, drop, Some, None, Ok, Err, Option, Result, sym, refl, ap, ◌∙◌, subst, inl, inr, ⊎_elim, append_assoc, append-nil, arith, length-drop}
-use Rattle.std.proofs.lemmas.List.{take_more, get_or-drop}
+use Rattle.std.proofs.Common.{◌≡◌, ℕ, ◌+◌, ◌-◌, ◌*◌, ◌<◌, ◌≤◌, ◌⊎◌, List, [], ◌∷◌, ◌++◌, length, min, get_or, take, drop, Some, None, Ok, Err, Option, Result, sym, refl, ap, ◌∙◌, subst, inl, inr, ⊎_elim, append_assoc, append-nil, arith, length-drop}
+use Rattle.std.proofs.lemmas.List.{take_more, take_rest, get_or-drop}
 use Rattle.std.proofs.lemmas.Bool.Decides.{nat_tests}
 use Rattle.std.proofs.lemmas.Bool.{cases_lt}
 use Rattle.text.specs.declared.fault.Fault.{Fault}
@@ -14,6 +14,7 @@ use Rattle.text.specs.NumberGrammar.{IsDigit, Optional, without, with, Digits, n
 use Rattle.text.specs.NumberWorth.{after as read_on}
 use Rattle.text.specs.NumberScan.{size_in, exponent_of, Begins, Longest, Found, Unfinished, Endless, FarScaled, Scanned}
 use Rattle.text.specs.Cuts.{part}
+use Rattle.text.proofs.LexBase.{length_part}
 
 abbrev pub after : Option State → ℕ → Option State
 after None b = None
@@ -353,6 +354,16 @@ part_more text i j h l =
     ap (λ n. take n (drop i text)) one
     ∙ take_more (drop i text) (j - i) 0 inside
     ∙ ap (λ b. part text i j ++ b ∷ []) (get_or-drop i text (j - i) 0 ∙ ap (λ n. get_or text n 0) there)
+
+-- the bytes from `at` on, which the scan goes over
+pub byte_there : (text : List ℕ) (at here i : ℕ) → here ≡ min at (length text) → i < length (part text here (length text)) → (at + i < length text) × (get_or (part text here (length text)) i 0 ≡ get_or text (at + i) 0)
+byte_there text at here i e h =
+    let size = length_part text here (length text) (omega arith) in
+    let same : here ≡ at = omega (arith, size) in
+    (omega (arith, size), ap (λ l. get_or l i 0) (take_rest text here) ∙ get_or-drop here text i 0 ∙ ap (λ n. get_or text (n + i) 0) same)
+
+pub all_gone : (text : List ℕ) (at here : ℕ) → here ≡ min at (length text) → at + length (part text here (length text)) < length text → ⊥
+all_gone text at here e h = omega (arith, length_part text here (length text) (omega arith))
 
 pub begin : (text : List ℕ) (at : ℕ) → Reached text at at Start
 begin text at = record {

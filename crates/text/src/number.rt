@@ -72,17 +72,18 @@ impl State {
 pub fn scan(text: &[u8], at: usize) -> Result<(usize, NumberKind), Fault>
     ensures { Scanned text.now at result }
 {
+    let rest = &text[at.min(text.len())..];
     let mut state = State::Start;
-    for end in at..text.len() {
-        let Some(next) = state.step(text[end]) else {
-            return state.finish(at, end);
+    for (taken, byte) in rest.iter().enumerate() {
+        let Some(next) = state.step(*byte) else {
+            return state.finish(at, at + taken);
         };
-        if end - at >= LONGEST_NUMBER {
+        if taken >= LONGEST_NUMBER {
             return Err(Fault::LongNumber(at));
         }
         state = next;
     }
-    state.finish(at, at.max(text.len()))
+    state.finish(at, at + rest.len())
 }
 
 // The contract of `scan` has one answer at each place of each text.
