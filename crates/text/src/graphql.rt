@@ -133,6 +133,7 @@ fn numeral(text: &[u8], start: usize) -> Result<Lexeme<'_>, Fault>
 {
     let number = token::numeral(text, start)?;
     let end = number.end;
+    // Not `get` with `is_some_and`: the proof could not use what the closure finds of the byte.
     if end < text.len() && barred_after_number(text[end]) {
         return Err(Fault::BadText(start));
     }
