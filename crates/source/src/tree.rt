@@ -1,7 +1,7 @@
 // A tree of raw values over the text that it was read from.
 ghost use Rattle.std.specs.Prelude.{◌≡◌, ℕ, List as Bytes, IfSome};
 ghost use Rattle.model.specs.Values.{Raw, Raws, Mems, list, object, place_of};
-ghost use Rattle.names.specs.Parts.{PartFits, bytes_of};
+ghost use Rattle.names.specs.Parts.{MayFit, bytes_if_any};
 ghost use Rattle.source.specs.Heads.{kind_of, flag_of, text_of};
 ghost use Rattle.source.specs.Standing.{LeadsItems, LeadsMembers, Scaled};
 ghost use Rattle.source.specs.Spans.{Taken, Within};
@@ -49,13 +49,18 @@ impl<'a> Tree<'a> {
         self.nodes.get(at).scale
     }
 
-    fn bytes(&self, part: Part) -> &[u8]
-        ensures { PartFits self.now.text.now self.now.nodes.pool.items part → result.now ≡ bytes_of self.now.text.now self.now.nodes.pool.items part }
+    // The bytes of a part; none where there is none.
+    fn bytes(&self, part: Option<Part>) -> &[u8]
+        ensures { MayFit self.now.text.now self.now.nodes.pool.items part → result.now ≡ bytes_if_any self.now.text.now self.now.nodes.pool.items part }
     {
-        part.bytes(Holder {
+        let holder = Holder {
             text: self.text,
             pool: &self.nodes.pool,
-        })
+        };
+        match part {
+            Some(part) => part.bytes(holder),
+            None => &[],
+        }
     }
 
     pub fn text(&self, at: usize) -> &[u8]
@@ -126,7 +131,7 @@ impl<'a> Tree<'a> {
         let mut span = self.inside(object);
         while let Some((at, rest)) = self.next(span) {
             if literal.member(object, self.name(at)) != Some(at) {
-                return Some(self.nodes.get(at).name.start());
+                return self.nodes.get(at).name.map(Part::start);
             }
             span = rest;
         }

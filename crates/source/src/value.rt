@@ -43,7 +43,7 @@ impl Written for Graphql {
 pub struct Value<'t, 'a, W> {
     tree: &'t Tree<'a>,
     root: usize,
-    written: PhantomData<W>,
+    language: PhantomData<W>,
 }
 
 pub type Literal<'t, 'a> = Value<'t, 'a, Graphql>;
@@ -57,7 +57,7 @@ impl<'t, 'a, W> Value<'t, 'a, W> {
         Value {
             tree,
             root,
-            written: PhantomData,
+            language: PhantomData,
         }
     }
 }
