@@ -23,14 +23,9 @@ impl<'a> Tree<'a> {
     // The place of the object's first member whose name an earlier member has.
     fn repeated_in(&self, object: usize) -> Option<usize> {
         let literal = Literal::new(self, object);
-        let mut span = literal.inside(object);
-        while let Some((at, rest)) = literal.next(span) {
-            if literal.member(object, literal.name(at)) != Some(at) {
-                return self.nodes.get(at).name.map(Part::start);
-            }
-            span = rest;
-        }
-        None
+        let at = literal.values(object).find(|at| literal.member(object, literal.name(*at))
+            != Some(*at))?;
+        self.nodes.get(at).name.map(Part::start)
     }
 
     // The least place of a member's name that an earlier member of the same object has.
