@@ -26,6 +26,7 @@ pub enum Kind {
 }
 
 // The items or members that are still to come: cursors from `from` on, before `to`.
+// No `Range`, which is not `Copy`.
 #[derive(Clone, Copy, Debug)]
 pub struct Span {
     pub from: usize,
@@ -44,6 +45,7 @@ pub trait Source: Sized {
     // The language that the values are written in.
     const FORM: Language;
 
+    // Beside FORM: no clause can name a constant at a type with a lifetime.
     ghost form: { Language };
 
     // The cursor past a value and all below it.
@@ -109,6 +111,7 @@ pub trait Source: Sized {
         ensures { (n : Bytes ℕ) → named self.now at n → result.now ≡ n };
 
     // The value of the member with that name.
+    // `final`, as `values` is: a body that may be replaced cannot pass `Self` on to a bound on `Source`.
     final fn member(&self, at: usize, name: &[u8]) -> Option<usize>
         ensures { (p : ℕ) (ms : Mems) → stands self.now at (object p ms) → Found (stands self.now) (member_of ms name.now) result }
     {

@@ -14,6 +14,7 @@ impl<'a> Tree<'a> {
     // Whether the value is a variable or holds one.
     pub fn holds_variable(&self, at: usize) -> bool {
         let size = self.nodes.get(at).size;
+        // A slice: `skip` would step over each node before `at`.
         let from = self.nodes.list.get(at..).unwrap_or_default();
         from.iter()
             .take(size)
