@@ -11,7 +11,7 @@ use Rattle.text.specs.TokenGrammar.{bang, dollar, ampersand, open_paren, close_p
 use Rattle.text.specs.TokenFound.{view_of, Holds}
 use Rattle.names.specs.declared.part.Part.{Part}
 use Rattle.source.specs.declared.nodes.Node.{Node}
-use Rattle.reader.specs.declared.manner.Manner.{Manner}
+use Rattle.reader.specs.Manner.{Manner}
 use Rattle.reader.specs.Tokens.{Sights, blind}
 use Rattle.reader.specs.Grammar.{Leaf, l_null, l_true, l_false, l_symbol, l_whole, l_decimal, l_string}
 use Rattle.reader.specs.Reading.{fails, Starts, starts_leaf, starts_list, starts_object, starts_variable, Reads, r_blind, r_none}

@@ -13,7 +13,7 @@ use Rattle.source.specs.Nodes.{node_at}
 use Rattle.source.specs.Table.{Table, Says, Named, Stands, StandsAll, StandsMems, Keeps, past_of}
 use Rattle.source.proofs.Keeping.{keeps_all, keeps_on, says_kept, stands_kept, all_kept, mems_kept, past_kept, named_kept, fits_kept, bytes_kept}
 use Rattle.source.specs.OneTree.{head_of}
-use Rattle.reader.specs.declared.manner.Manner.{Manner}
+use Rattle.reader.specs.Manner.{Manner}
 use Rattle.reader.specs.Grammar.{Leaf, l_null, l_true, l_false, l_symbol, l_whole, l_decimal, l_string}
 use Rattle.reader.specs.Tokens.{Sight, sees, Sights}
 use Rattle.reader.specs.Reading.{got, fails, turn, done, again, sees_mark, NameAt, Reads, ReadsList, ReadsObject, r_list, r_object, rl_nil, rl_items, ReadsItems, ri_last, ri_more, ro_end, ro_members, ReadsMembers, rm_last, rm_more}

@@ -16,7 +16,7 @@ use Rattle.source.specs.declared.nodes.Node.{Node}
 use Rattle.source.specs.declared.raw.Kind.TheVariants.{Variable, List as ListKind, Object}
 use Rattle.source.specs.Heads.{kind_of}
 use Rattle.source.specs.Table.{Table, Says}
-use Rattle.reader.specs.declared.manner.Manner.{Manner}
+use Rattle.reader.specs.Manner.{Manner}
 use Rattle.reader.specs.Tokens.{sees, blind, Seen}
 use Rattle.reader.specs.Grammar.{Leaf, l_null, l_true, l_false, l_symbol, l_whole, l_decimal, l_string}
 use Rattle.reader.specs.Closings.{view_mark}

@@ -7,7 +7,7 @@ use Rattle.text.specs.declared.fault.Fault.TheVariants.{BadText}
 use Rattle.text.specs.declared.language.Language.{Language}
 use Rattle.source.specs.declared.tree.Tree.{Tree}
 use Rattle.source.specs.Table.{Table, tree_table, Stands, Held}
-use Rattle.reader.specs.declared.manner.Manner.{Manner}
+use Rattle.reader.specs.Manner.{Manner}
 use Rattle.reader.specs.Tokens.{TokenIs, Sights}
 use Rattle.reader.specs.Grammar.{Text}
 use Rattle.reader.specs.Reading.{Out, got, fails, ReadsAll}

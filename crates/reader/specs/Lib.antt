@@ -1,3 +1,4 @@
+pub mod Manner
 pub mod Tokens
 pub mod Grammar
 pub mod Reading

@@ -19,7 +19,8 @@ use Rattle.names.specs.Index.{Sound, names_from}
 use Rattle.source.specs.declared.nodes.Node.{Node}
 use Rattle.source.specs.Nodes.{node_at}
 use Rattle.source.specs.Table.{Table, Says, Stands, StandsAll, StandsMems, Keeps, past_of}
-use Rattle.reader.specs.declared.manner.Manner.{Manner}
+use Rattle.reader.specs.declared.reading.Reader.{Reader}
+use Rattle.reader.specs.Manner.{Manner}
 use Rattle.reader.specs.Tokens.{Sight, blind, Seen, Sights}
 use Rattle.reader.specs.Grammar.{Leaf, name_of}
 use Rattle.reader.specs.Reading.{got, fails, Starts, turn, done, again, halts, repeats, NameAt, Reads, ReadsList, ReadsObject}
@@ -197,6 +198,10 @@ StepIs language close at v text (Break e) = (turn language close at v ≡ done e
 abbrev pub TurnTold : Language → List ℕ → Mark → ℕ → Result (ControlFlow ℕ ℕ) Fault → Type 0
 TurnTold language text close at (Ok s) = (v : Sight) × Sights language text at v × StepIs language close at v text s
 TurnTold language text close at (Err f) = (v : Sight) × Sights language text at v × (turn language close at v ≡ halts f)
+
+-- how a reader of a language reads
+abbrev pub manner_of : {W : Type 0} → Language → Reader W → Manner
+manner_of language r = record { language = language; distinct = r.distinct }
 
 -- how a literal inside another text is read: names may repeat
 abbrev pub literal_manner : Manner

@@ -6,12 +6,13 @@ ghost use Rattle.text.specs.declared.number.NumberKind.TheVariants.{Whole, Decim
 ghost use Rattle.text.specs.Cuts.{part as cut_out};
 ghost use Rattle.text.specs.TokenGrammar.{a_name, a_number, Numeral};
 ghost use Rattle.text.specs.TokenFound.{Writes};
-ghost use Rattle.reader.specs.Told.{LookTold, LeafNode, LeafTold, PartTold, Lexed, StartTold, BeginTold};
+ghost use Rattle.reader.specs.Told.{LookTold, LeafNode, LeafTold, PartTold, Lexed, StartTold, BeginTold, manner_of};
 
-use crate::manner::Reader;
+use crate::reading::Reader;
 use names::part::Part;
 use source::nodes::Node;
 use source::raw::Kind;
+use source::value::Written;
 use text::fault::Fault;
 use text::language::Language;
 use text::token::{Lexeme, Token};
@@ -67,12 +68,12 @@ fn decimal_node(spelled: &[u8], start: usize, name: Part, pool: &mut Vec<u8>) ->
     })
 }
 
-impl<'a> Reader<'a> {
+impl<'a, W: Written> Reader<'a, W> {
     // The first token at or after `at`.
     pub(crate) fn token(self, at: usize) -> Result<Lexeme<'a>, Fault>
-        ensures { LookTold self.entry.manner.language self.entry.text.now at result }
+        ensures { LookTold W.LANGUAGE self.entry.text.now at result }
     {
-        match self.manner.language {
+        match W::LANGUAGE {
             Language::Json => json::token(self.text, at),
             Language::Graphql => graphql::token(self.text, at),
         }
@@ -88,7 +89,7 @@ impl<'a> Reader<'a> {
         pool: &mut Vec<u8>,
     ) -> Result<Part, Fault>
         requires { lexeme.start + 1 < lexeme.end }
-        ensures { (text cs : List ℕ) → raw.now ≡ cut_out text (lexeme.entry.start + 1) (lexeme.entry.end - 1) → Writes self.entry.manner.language text (lexeme.entry.start + 1) lexeme.entry.end plain cs → PartTold text pool.old.items pool.new.items (encodes cs) result }
+        ensures { (text cs : List ℕ) → raw.now ≡ cut_out text (lexeme.entry.start + 1) (lexeme.entry.end - 1) → Writes W.LANGUAGE text (lexeme.entry.start + 1) lexeme.entry.end plain cs → PartTold text pool.old.items pool.new.items (encodes cs) result }
     {
         if plain {
             return Ok(Part::Text {
@@ -97,7 +98,7 @@ impl<'a> Reader<'a> {
             });
         }
         let from = pool.len();
-        string::decode(raw, self.manner.language, pool)?;
+        string::decode(raw, W::LANGUAGE, pool)?;
         Ok(Part::Pool {
             start: from,
             end: pool.len(),
@@ -106,8 +107,8 @@ impl<'a> Reader<'a> {
 
     // The node of a value that begins with the token; nothing is below it yet.
     fn node_of(self, lexeme: Lexeme<'_>, name: Part, pool: &mut Vec<u8>) -> Result<Node, Fault>
-        requires { (text : List ℕ) × Lexed self.manner.language text lexeme }
-        ensures { (text : List ℕ) (k : Lexed self.entry.manner.language text lexeme.entry) → StartTold text pool.old.items pool.new.items name lexeme.entry.start k.token result }
+        requires { (text : List ℕ) × Lexed W.LANGUAGE text lexeme }
+        ensures { (text : List ℕ) (k : Lexed W.LANGUAGE text lexeme.entry) → StartTold text pool.old.items pool.new.items name lexeme.entry.start k.token result }
     {
         let Lexeme { token, start, end } = lexeme;
         match token {
@@ -135,7 +136,7 @@ impl<'a> Reader<'a> {
         name: Part,
         pool: &mut Vec<u8>,
     ) -> Result<(Lexeme<'a>, Node), Fault>
-        ensures { BeginTold self.entry.manner self.entry.text.now at pool.old.items pool.new.items name result }
+        ensures { BeginTold (manner_of W.LANGUAGE self.entry) self.entry.text.now at pool.old.items pool.new.items name result }
     {
         let lexeme = self.token(at)?;
         let node = self.node_of(lexeme, name, pool)?;

@@ -2,8 +2,9 @@
 ghost use Rattle.std.specs.Prelude.{◌≡◌};
 ghost use Rattle.source.specs.Table.{tree_table};
 ghost use Rattle.reader.specs.Document.{Document, WholeTold, OneReading, table_in};
+ghost use Rattle.reader.specs.Told.{manner_of};
 
-use crate::manner::{LEVELS, Manner, Reader};
+use crate::reading::{LEVELS, Reader};
 use names::part::Part;
 use source::limits::LONGEST_TEXT;
 use source::nodes::Nodes;
@@ -35,10 +36,10 @@ impl<'a, W> Whole<'a, W> {
     }
 }
 
-impl<'a> Reader<'a> {
+impl<'a, W: Written> Reader<'a, W> {
     // The one value that is the whole text.
     fn whole(self, heap: Global) -> Result<Tree<'a>, Fault>
-        ensures { WholeTold self.entry.manner self.entry.text.now result }
+        ensures { WholeTold (manner_of W.LANGUAGE self.entry) self.entry.text.now result }
     {
         if self.text.len() > LONGEST_TEXT {
             return Err(Fault::BadText(0));
@@ -60,11 +61,12 @@ impl<'a> Reader<'a> {
 pub fn read<W: Written>(heap: Global, text: &[u8]) -> Result<Whole<'_, W>, Fault>
     ensures { Document W.LANGUAGE text.now (table_in (λ w. tree_table w.tree) result) }
 {
-    let manner = Manner {
-        language: W::LANGUAGE,
+    let reader: Reader<'_, W> = Reader {
+        text,
         distinct: true,
+        language: PhantomData,
     };
-    let tree = Reader { text, manner }.whole(heap)?;
+    let tree = reader.whole(heap)?;
     Ok(Whole {
         tree,
         written: PhantomData,

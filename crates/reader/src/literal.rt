@@ -5,12 +5,13 @@ ghost use Rattle.source.specs.Nodes.{nowhere};
 ghost use Rattle.source.specs.Table.{table_of};
 ghost use Rattle.reader.specs.Told.{Told, literal_manner};
 
-use crate::manner::{LEVELS, Manner, Reader};
+use crate::reading::{LEVELS, Reader};
 use names::part::Part;
 use source::nodes::Nodes;
+use source::value::Graphql;
 pub use source::value::Literal;
+use std::marker::PhantomData;
 use text::fault::Fault;
-use text::language::Language;
 
 // Adds the nodes of the literal at `at` of a text, a value at that depth, in which names may repeat: where it ends.
 pub fn literal_at(text: &[u8], at: usize, depth: usize, nodes: &mut Nodes) -> Result<usize, Fault>
@@ -21,10 +22,10 @@ pub fn literal_at(text: &[u8], at: usize, depth: usize, nodes: &mut Nodes) -> Re
     if at > text.len() {
         return Err(Fault::BadText(text.len()));
     }
-    let manner = Manner {
-        language: Language::Graphql,
+    let reader: Reader<'_, Graphql> = Reader {
+        text,
         distinct: false,
+        language: PhantomData,
     };
-    let levels = LEVELS.saturating_sub(depth);
-    Reader { text, manner }.value(at, levels, Part::EMPTY, nodes)
+    reader.value(at, LEVELS.saturating_sub(depth), Part::EMPTY, nodes)
 }

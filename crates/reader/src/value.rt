@@ -4,32 +4,33 @@ ghost use Rattle.model.specs.Values.{Name, Raw, list as list_of, object as objec
 ghost use Rattle.text.specs.TokenGrammar.{a_mark, open_bracket, open_brace, dollar};
 ghost use Rattle.source.specs.Table.{table_of};
 ghost use Rattle.reader.specs.Closings.{mark_of};
-ghost use Rattle.reader.specs.Told.{Lexed, NamePartTold, Told, Opened, ItemsTold, MembersTold, NamesHeld, NameTold, NewTold, TurnTold};
+ghost use Rattle.reader.specs.Told.{Lexed, NamePartTold, Told, Opened, ItemsTold, MembersTold, NamesHeld, NameTold, NewTold, TurnTold, manner_of};
 
-use crate::manner::Reader;
 use crate::marks::Mark;
+use crate::reading::Reader;
 use names::names::Names;
 use names::part::{Holder, Part};
 use source::limits::LONGEST_NAME;
 use source::nodes::{Node, Nodes};
 use source::raw::Kind;
+use source::value::Written;
 use std::ops::ControlFlow;
 use text::fault::Fault;
 use text::language::Language;
 use text::token::{Lexeme, Token};
 
-impl Reader<'_> {
+impl<W: Written> Reader<'_, W> {
     // How it goes on after a value that ends at `at`.
     fn step(self, at: usize, closing: Mark) -> Result<ControlFlow<usize, usize>, Fault>
         requires { at ≤ length self.text.now }
-        ensures { TurnTold self.entry.manner.language self.entry.text.now (mark_of closing) at result }
+        ensures { TurnTold W.LANGUAGE self.entry.text.now (mark_of closing) at result }
     {
         let lexeme = self.token(at)?;
         if closing.is(lexeme.token) {
             return Ok(ControlFlow::Break(lexeme.end));
         }
         let comma = Mark::Comma.is(lexeme.token);
-        match self.manner.language {
+        match W::LANGUAGE {
             Language::Graphql => Ok(ControlFlow::Continue(at)),
             Language::Json if comma => Ok(ControlFlow::Continue(lexeme.end)),
             Language::Json => Err(Fault::BadText(lexeme.start)),
@@ -38,10 +39,10 @@ impl Reader<'_> {
 
     // The part of the text or the pool that is a member's name, if the token is one.
     fn name_part(self, lexeme: Lexeme<'_>, pool: &mut Vec<u8>) -> Result<Part, Fault>
-        requires { (text : Listing ℕ) × Lexed self.manner.language text lexeme }
-        ensures { (text : Listing ℕ) (k : Lexed self.entry.manner.language text lexeme.entry) → NamePartTold self.entry.manner.language text pool.old.items pool.new.items lexeme.entry.start k.token result }
+        requires { (text : Listing ℕ) × Lexed W.LANGUAGE text lexeme }
+        ensures { (text : Listing ℕ) (k : Lexed W.LANGUAGE text lexeme.entry) → NamePartTold W.LANGUAGE text pool.old.items pool.new.items lexeme.entry.start k.token result }
     {
-        match (self.manner.language, lexeme.token) {
+        match (W::LANGUAGE, lexeme.token) {
             (Language::Json, Token::Text { raw, plain }) => self.string_part(
                 lexeme, raw, plain, pool,
             ),
@@ -61,9 +62,9 @@ impl Reader<'_> {
         pool: &[u8],
         name: Part,
     ) -> Result<bool, Fault>
-        ensures { NewTold self.entry.manner.distinct self.entry.text.now pool.now base names.old.links.items names.new.links.items name result }
+        ensures { NewTold self.entry.distinct self.entry.text.now pool.now base names.old.links.items names.new.links.items name result }
     {
-        if self.manner.distinct {
+        if self.distinct {
             Ok(names.add(
                 base,
                 Holder {
@@ -82,7 +83,7 @@ impl Reader<'_> {
         requires within { at ≤ length self.text.now }
         requires base { base ≤ length nodes.old.names.links.items }
         ensures list { nodes.new.list ≡ nodes.old.list }
-        ensures told { (ns : Listing Name) → NamesHeld self.entry.manner.distinct self.entry.text.now nodes.old.pool.items nodes.old.names.links.items base ns → NameTold self.entry.manner self.entry.text.now at ns base nodes.old.pool.items nodes.new.pool.items nodes.old.names.links.items nodes.new.names.links.items result }
+        ensures told { (ns : Listing Name) → NamesHeld self.entry.distinct self.entry.text.now nodes.old.pool.items nodes.old.names.links.items base ns → NameTold (manner_of W.LANGUAGE self.entry) self.entry.text.now at ns base nodes.old.pool.items nodes.new.pool.items nodes.old.names.links.items nodes.new.names.links.items result }
     {
         let lexeme = self.token(at)?;
         let name = self.name_part(lexeme, &mut nodes.pool)?;
@@ -103,7 +104,7 @@ impl Reader<'_> {
     // The variable whose dollar sign ends at `at`, from its node on.
     fn variable(self, at: usize, node: Node, nodes: &mut Nodes) -> Result<usize, Fault>
         requires { at ≤ length self.text.now }
-        ensures { (d i : ℕ) (name : Part) → 0 < d → Opened self.entry.manner self.entry.text.now i at (a_mark dollar) (variable_of node.place []) (table_of self.entry.text.now nodes.old) name node → Told self.entry.manner self.entry.text.now d i name (table_of self.entry.text.now nodes.old) (table_of self.entry.text.now nodes.new) nodes.old.names.links.items nodes.new.names.links.items result }
+        ensures { (d i : ℕ) (name : Part) → 0 < d → Opened (manner_of W.LANGUAGE self.entry) self.entry.text.now i at (a_mark dollar) (variable_of node.place []) (table_of self.entry.text.now nodes.old) name node → Told (manner_of W.LANGUAGE self.entry) self.entry.text.now d i name (table_of self.entry.text.now nodes.old) (table_of self.entry.text.now nodes.new) nodes.old.names.links.items nodes.new.names.links.items result }
     {
         let lexeme = self.token(at)?;
         let Token::Name(_) = lexeme.token else {
@@ -129,7 +130,7 @@ impl Reader<'_> {
         nodes: &mut Nodes,
     ) -> Result<usize, Fault>
         requires { at ≤ length self.text.now }
-        ensures { Told self.entry.manner self.entry.text.now levels at name (table_of self.entry.text.now nodes.old) (table_of self.entry.text.now nodes.new) nodes.old.names.links.items nodes.new.names.links.items result }
+        ensures { Told (manner_of W.LANGUAGE self.entry) self.entry.text.now levels at name (table_of self.entry.text.now nodes.old) (table_of self.entry.text.now nodes.new) nodes.old.names.links.items nodes.new.names.links.items result }
     {
         let (lexeme, node) = self.begin(at, name, &mut nodes.pool)?;
         if levels == 0 {
@@ -151,7 +152,7 @@ impl Reader<'_> {
     fn list(self, at: usize, levels: usize, node: Node, nodes: &mut Nodes) -> Result<usize, Fault>
         requires room { 0 < levels }
         requires within { at ≤ length self.text.now }
-        ensures { (i : ℕ) (name : Part) → Opened self.entry.manner self.entry.text.now i at (a_mark open_bracket) (list_of node.place nil) (table_of self.entry.text.now nodes.old) name node → Told self.entry.manner self.entry.text.now levels i name (table_of self.entry.text.now nodes.old) (table_of self.entry.text.now nodes.new) nodes.old.names.links.items nodes.new.names.links.items result }
+        ensures { (i : ℕ) (name : Part) → Opened (manner_of W.LANGUAGE self.entry) self.entry.text.now i at (a_mark open_bracket) (list_of node.place nil) (table_of self.entry.text.now nodes.old) name node → Told (manner_of W.LANGUAGE self.entry) self.entry.text.now levels i name (table_of self.entry.text.now nodes.old) (table_of self.entry.text.now nodes.new) nodes.old.names.links.items nodes.new.names.links.items result }
     {
         let index = nodes.list.len();
         nodes.add(node)?;
@@ -164,7 +165,7 @@ impl Reader<'_> {
     #[cycle(items_list_members_object_value)]
     fn items(self, at: usize, levels: usize, nodes: &mut Nodes) -> Result<usize, Fault>
         requires { at ≤ length self.text.now }
-        ensures { ItemsTold self.entry.manner self.entry.text.now levels at (table_of self.entry.text.now nodes.old) (table_of self.entry.text.now nodes.new) nodes.old.names.links.items nodes.new.names.links.items result }
+        ensures { ItemsTold (manner_of W.LANGUAGE self.entry) self.entry.text.now levels at (table_of self.entry.text.now nodes.old) (table_of self.entry.text.now nodes.new) nodes.old.names.links.items nodes.new.names.links.items result }
     {
         let first = self.token(at)?;
         if Mark::CloseBracket.is(first.token) {
@@ -185,7 +186,7 @@ impl Reader<'_> {
     fn object(self, at: usize, levels: usize, node: Node, nodes: &mut Nodes) -> Result<usize, Fault>
         requires room { 0 < levels }
         requires within { at ≤ length self.text.now }
-        ensures { (i : ℕ) (name : Part) → Opened self.entry.manner self.entry.text.now i at (a_mark open_brace) (object_of node.place no_members) (table_of self.entry.text.now nodes.old) name node → Told self.entry.manner self.entry.text.now levels i name (table_of self.entry.text.now nodes.old) (table_of self.entry.text.now nodes.new) nodes.old.names.links.items nodes.new.names.links.items result }
+        ensures { (i : ℕ) (name : Part) → Opened (manner_of W.LANGUAGE self.entry) self.entry.text.now i at (a_mark open_brace) (object_of node.place no_members) (table_of self.entry.text.now nodes.old) name node → Told (manner_of W.LANGUAGE self.entry) self.entry.text.now levels i name (table_of self.entry.text.now nodes.old) (table_of self.entry.text.now nodes.new) nodes.old.names.links.items nodes.new.names.links.items result }
     {
         let index = nodes.list.len();
         let base = nodes.names.len();
@@ -207,7 +208,7 @@ impl Reader<'_> {
     ) -> Result<usize, Fault>
         requires within { at ≤ length self.text.now }
         requires none { base ≡ length nodes.old.names.links.items }
-        ensures { MembersTold self.entry.manner self.entry.text.now levels at (table_of self.entry.text.now nodes.old) (table_of self.entry.text.now nodes.new) base nodes.old.names.links.items nodes.new.names.links.items result }
+        ensures { MembersTold (manner_of W.LANGUAGE self.entry) self.entry.text.now levels at (table_of self.entry.text.now nodes.old) (table_of self.entry.text.now nodes.new) base nodes.old.names.links.items nodes.new.names.links.items result }
     {
         let first = self.token(at)?;
         if Mark::CloseBrace.is(first.token) {

@@ -6,29 +6,30 @@ use Rattle.text.specs.TokenGrammar.{Lexical}
 use Rattle.reader.specs.Tokens.{sees, blind}
 use Rattle.reader.specs.Reading.{all_fails, all_read, after_all}
 use Rattle.reader.specs.Document.{FaultWhole, whole_long, whole_read}
+use Rattle.reader.specs.Told.{manner_of}
 use Rattle.reader.proofs.Growing.{ValueFails, blames_all, blames_map}
 use Rattle.reader.proofs.Beginning.{holds_as}
 use Rattle.reader.proofs.TokenKinds.{not_last}
-use Rattle.reader.proofs.manner.Reader.whole.Goals as goal
+use Rattle.reader.proofs.reading.Reader.whole.Goals as goal
 
 pub returns-then-self-gt-LONGEST_TEXT : goal.returns-then-self-gt-LONGEST_TEXT
-returns-then-self-gt-LONGEST_TEXT c = whole_long c.if-self-gt-LONGEST_TEXT.true refl
+returns-then-self-gt-LONGEST_TEXT g c = whole_long c.if-self-gt-LONGEST_TEXT.true refl
 
 pub returns-in_err-end : goal.returns-in_err-end
-returns-in_err-end c =
+returns-in_err-end g c =
     let p = err_from_is_err_and c.from_residual.result c.from_residual.ensures.1 in
     rw (p.1, p.2)
-    (blames_map (ValueFails c.args.self.manner c.args.self.text.now 33 0) (FaultWhole c.args.self.manner c.args.self.text.now)
-    (λ g r. whole_read c.if-self-gt-LONGEST_TEXT.false (all_fails r)) _ c.in_err-end.ensures)
+    (blames_map (ValueFails (manner_of g.W.Written.LANGUAGE c.args.self) c.args.self.text.now 33 0) (FaultWhole (manner_of g.W.Written.LANGUAGE c.args.self) c.args.self.text.now)
+    (λ f r. whole_read c.if-self-gt-LONGEST_TEXT.false (all_fails r)) _ c.in_err-end.ensures)
 
 pub returns-in_err-after : goal.returns-in_err-after
-returns-in_err-after c =
+returns-in_err-after g c =
     let a = c.in_ok-end.ensures in
     let p = err_from_is_err_and c.from_residual-in_err-after.result c.from_residual-in_err-after.ensures.1 in
-    rw (p.1, p.2) (blames_all (FaultWhole c.args.self.manner c.args.self.text.now) _ (whole_read c.if-self-gt-LONGEST_TEXT.false (all_read {v = blind c.in_err-after.field-0.0} a.reads c.in_err-after.ensures refl)))
+    rw (p.1, p.2) (blames_all (FaultWhole (manner_of g.W.Written.LANGUAGE c.args.self) c.args.self.text.now) _ (whole_read c.if-self-gt-LONGEST_TEXT.false (all_read {v = blind c.in_err-after.field-0.0} a.reads c.in_err-after.ensures refl)))
 
 pub returns-in-End : goal.returns-in-End
-returns-in-End c =
+returns-in-End g c =
     let a = c.in_ok-end.ensures in
     let k = c.in_ok-after.ensures in
     let l = c.in_ok-after.after in
@@ -42,9 +43,9 @@ returns-in-End c =
     }
 
 pub returns : goal.returns
-returns c =
+returns g c =
     let a = c.in_ok-end.ensures in
     let k = c.in_ok-after.ensures in
     let l = c.in_ok-after.after in
     whole_read c.if-self-gt-LONGEST_TEXT.false
-    (all_read {v = sees l.start l.end k.lexed.token} a.reads k.seen (not_last c.args.self.manner.language c.args.self.text.now l.start l.end k.lexed.token l.token a.tree l.start l.end c.in_default.not-End k.lexed.holds))
+    (all_read {v = sees l.start l.end k.lexed.token} a.reads k.seen (not_last g.W.Written.LANGUAGE c.args.self.text.now l.start l.end k.lexed.token l.token a.tree l.start l.end c.in_default.not-End k.lexed.holds))
