@@ -6,7 +6,7 @@ ghost use Rattle.text.specs.declared.number.NumberKind.TheVariants.{Whole, Decim
 ghost use Rattle.text.specs.Cuts.{part as cut_out};
 ghost use Rattle.text.specs.TokenGrammar.{a_name, a_number, Numeral};
 ghost use Rattle.text.specs.TokenFound.{Writes};
-ghost use Rattle.reader.specs.Told.{LookTold, LeafNode, LeafTold, PartTold, Lexed, StartTold, BeginTold, manner_of};
+ghost use Rattle.reader.specs.Told.{LookTold, LeafNode, LeafTold, PartTold, Lexed, StartTold, BeginTold};
 
 use crate::reading::Reader;
 use names::part::Part;
@@ -136,7 +136,7 @@ impl<'a, W: Written> Reader<'a, W> {
         name: Part,
         pool: &mut Vec<u8>,
     ) -> Result<(Lexeme<'a>, Node), Fault>
-        ensures { BeginTold (manner_of W.LANGUAGE self.entry) self.entry.text.now at pool.old.items pool.new.items name result }
+        ensures { BeginTold W.LANGUAGE self.entry at name pool.old.items pool.new.items result }
     {
         let lexeme = self.token(at)?;
         let node = self.node_of(lexeme, name, pool)?;

@@ -2,7 +2,6 @@
 ghost use Rattle.std.specs.Prelude.{◌≡◌};
 ghost use Rattle.source.specs.Table.{tree_table};
 ghost use Rattle.reader.specs.Document.{Document, WholeTold, OneReading, table_in};
-ghost use Rattle.reader.specs.Told.{manner_of};
 
 use crate::reading::{LEVELS, Reader};
 use names::part::Part;
@@ -39,7 +38,7 @@ impl<'a, W> Whole<'a, W> {
 impl<'a, W: Written> Reader<'a, W> {
     // The one value that is the whole text.
     fn whole(self, heap: Global) -> Result<Tree<'a>, Fault>
-        ensures { WholeTold (manner_of W.LANGUAGE self.entry) self.entry.text.now result }
+        ensures { WholeTold W.LANGUAGE self.entry result }
     {
         if self.text.len() > LONGEST_TEXT {
             return Err(Fault::BadText(0));

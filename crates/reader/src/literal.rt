@@ -1,9 +1,7 @@
 // GraphQL literals inside other texts.
-ghost use Rattle.std.specs.Prelude.{◌≡◌, ◌-◌, ◌<◌, ◌≤◌, length, IfOk, Err};
+ghost use Rattle.std.specs.Prelude.{◌≡◌, ◌<◌, ◌≤◌, length, IfOk, Err};
 ghost use Rattle.text.specs.declared.fault.Fault.TheVariants.{BadText};
-ghost use Rattle.source.specs.Nodes.{nowhere};
-ghost use Rattle.source.specs.Table.{table_of};
-ghost use Rattle.reader.specs.Told.{Told, literal_manner};
+ghost use Rattle.reader.specs.Told.{LiteralTold};
 
 use crate::reading::{LEVELS, Reader};
 use names::part::Part;
@@ -15,7 +13,7 @@ use text::fault::Fault;
 
 // Adds the nodes of the literal at `at` of a text, a value at that depth, in which names may repeat: where it ends.
 pub fn literal_at(text: &[u8], at: usize, depth: usize, nodes: &mut Nodes) -> Result<usize, Fault>
-    ensures told { at ≤ length text.now → Told literal_manner text.now (33 - depth) at nowhere (table_of text.now nodes.old) (table_of text.now nodes.new) nodes.old.names.links.items nodes.new.names.links.items result }
+    ensures told { at ≤ length text.now → LiteralTold text.now depth at nodes.old nodes.new result }
     ensures past { length text.now < at → result ≡ Err (BadText (length text.now)) }
     ensures forward { IfOk result (λ end. (at < end) × (end ≤ length text.now)) }
 {

@@ -1,10 +1,9 @@
 // The readers of values, lists and objects, which read one another's values.
 ghost use Rattle.std.specs.Prelude.{◌≡◌, ℕ, ◌<◌, ◌≤◌, List as Listing, [], length};
-ghost use Rattle.model.specs.Values.{Name, Raw, list as list_of, object as object_of, variable as variable_of, nil, end as no_members};
-ghost use Rattle.text.specs.TokenGrammar.{a_mark, open_bracket, open_brace, dollar};
-ghost use Rattle.source.specs.Table.{table_of};
+ghost use Rattle.model.specs.Values.{list as list_of, object as object_of, variable as variable_of, nil, end as no_members};
+ghost use Rattle.text.specs.TokenGrammar.{open_bracket, open_brace, dollar};
 ghost use Rattle.reader.specs.Closings.{mark_of};
-ghost use Rattle.reader.specs.Told.{Lexed, NamePartTold, Told, Opened, ItemsTold, MembersTold, NamesHeld, NameTold, NewTold, TurnTold, manner_of};
+ghost use Rattle.reader.specs.Told.{Lexed, NamePartTold, ValueTold, RestTold, ItemsTold, MembersTold, MemberTold, RegisterTold, TurnTold};
 
 use crate::marks::Mark;
 use crate::reading::Reader;
@@ -62,7 +61,7 @@ impl<W: Written> Reader<'_, W> {
         pool: &[u8],
         name: Part,
     ) -> Result<bool, Fault>
-        ensures { NewTold self.entry.distinct self.entry.text.now pool.now base names.old.links.items names.new.links.items name result }
+        ensures { RegisterTold self.entry base pool.now name names.old names.new result }
     {
         if self.distinct {
             Ok(names.add(
@@ -83,7 +82,7 @@ impl<W: Written> Reader<'_, W> {
         requires within { at ≤ length self.text.now }
         requires base { base ≤ length nodes.old.names.links.items }
         ensures list { nodes.new.list ≡ nodes.old.list }
-        ensures told { (ns : Listing Name) → NamesHeld self.entry.distinct self.entry.text.now nodes.old.pool.items nodes.old.names.links.items base ns → NameTold (manner_of W.LANGUAGE self.entry) self.entry.text.now at ns base nodes.old.pool.items nodes.new.pool.items nodes.old.names.links.items nodes.new.names.links.items result }
+        ensures told { MemberTold W.LANGUAGE self.entry at base nodes.old nodes.new result }
     {
         let lexeme = self.token(at)?;
         let name = self.name_part(lexeme, &mut nodes.pool)?;
@@ -104,7 +103,7 @@ impl<W: Written> Reader<'_, W> {
     // The variable whose dollar sign ends at `at`, from its node on.
     fn variable(self, at: usize, node: Node, nodes: &mut Nodes) -> Result<usize, Fault>
         requires { at ≤ length self.text.now }
-        ensures { (d i : ℕ) (name : Part) → 0 < d → Opened (manner_of W.LANGUAGE self.entry) self.entry.text.now i at (a_mark dollar) (variable_of node.place []) (table_of self.entry.text.now nodes.old) name node → Told (manner_of W.LANGUAGE self.entry) self.entry.text.now d i name (table_of self.entry.text.now nodes.old) (table_of self.entry.text.now nodes.new) nodes.old.names.links.items nodes.new.names.links.items result }
+        ensures { (d : ℕ) → 0 < d → RestTold W.LANGUAGE self.entry d at dollar (variable_of node.place []) node nodes.old nodes.new result }
     {
         let lexeme = self.token(at)?;
         let Token::Name(_) = lexeme.token else {
@@ -130,7 +129,7 @@ impl<W: Written> Reader<'_, W> {
         nodes: &mut Nodes,
     ) -> Result<usize, Fault>
         requires { at ≤ length self.text.now }
-        ensures { Told (manner_of W.LANGUAGE self.entry) self.entry.text.now levels at name (table_of self.entry.text.now nodes.old) (table_of self.entry.text.now nodes.new) nodes.old.names.links.items nodes.new.names.links.items result }
+        ensures { ValueTold W.LANGUAGE self.entry levels at name nodes.old nodes.new result }
     {
         let (lexeme, node) = self.begin(at, name, &mut nodes.pool)?;
         if levels == 0 {
@@ -152,7 +151,7 @@ impl<W: Written> Reader<'_, W> {
     fn list(self, at: usize, levels: usize, node: Node, nodes: &mut Nodes) -> Result<usize, Fault>
         requires room { 0 < levels }
         requires within { at ≤ length self.text.now }
-        ensures { (i : ℕ) (name : Part) → Opened (manner_of W.LANGUAGE self.entry) self.entry.text.now i at (a_mark open_bracket) (list_of node.place nil) (table_of self.entry.text.now nodes.old) name node → Told (manner_of W.LANGUAGE self.entry) self.entry.text.now levels i name (table_of self.entry.text.now nodes.old) (table_of self.entry.text.now nodes.new) nodes.old.names.links.items nodes.new.names.links.items result }
+        ensures { RestTold W.LANGUAGE self.entry levels at open_bracket (list_of node.place nil) node nodes.old nodes.new result }
     {
         let index = nodes.list.len();
         nodes.add(node)?;
@@ -165,7 +164,7 @@ impl<W: Written> Reader<'_, W> {
     #[cycle(items_list_members_object_value)]
     fn items(self, at: usize, levels: usize, nodes: &mut Nodes) -> Result<usize, Fault>
         requires { at ≤ length self.text.now }
-        ensures { ItemsTold (manner_of W.LANGUAGE self.entry) self.entry.text.now levels at (table_of self.entry.text.now nodes.old) (table_of self.entry.text.now nodes.new) nodes.old.names.links.items nodes.new.names.links.items result }
+        ensures { ItemsTold W.LANGUAGE self.entry levels at nodes.old nodes.new result }
     {
         let first = self.token(at)?;
         if Mark::CloseBracket.is(first.token) {
@@ -186,7 +185,7 @@ impl<W: Written> Reader<'_, W> {
     fn object(self, at: usize, levels: usize, node: Node, nodes: &mut Nodes) -> Result<usize, Fault>
         requires room { 0 < levels }
         requires within { at ≤ length self.text.now }
-        ensures { (i : ℕ) (name : Part) → Opened (manner_of W.LANGUAGE self.entry) self.entry.text.now i at (a_mark open_brace) (object_of node.place no_members) (table_of self.entry.text.now nodes.old) name node → Told (manner_of W.LANGUAGE self.entry) self.entry.text.now levels i name (table_of self.entry.text.now nodes.old) (table_of self.entry.text.now nodes.new) nodes.old.names.links.items nodes.new.names.links.items result }
+        ensures { RestTold W.LANGUAGE self.entry levels at open_brace (object_of node.place no_members) node nodes.old nodes.new result }
     {
         let index = nodes.list.len();
         let base = nodes.names.len();
@@ -208,7 +207,7 @@ impl<W: Written> Reader<'_, W> {
     ) -> Result<usize, Fault>
         requires within { at ≤ length self.text.now }
         requires none { base ≡ length nodes.old.names.links.items }
-        ensures { MembersTold (manner_of W.LANGUAGE self.entry) self.entry.text.now levels at (table_of self.entry.text.now nodes.old) (table_of self.entry.text.now nodes.new) base nodes.old.names.links.items nodes.new.names.links.items result }
+        ensures { MembersTold W.LANGUAGE self.entry levels at base nodes.old nodes.new result }
     {
         let first = self.token(at)?;
         if Mark::CloseBrace.is(first.token) {

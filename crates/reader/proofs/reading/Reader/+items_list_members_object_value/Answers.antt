@@ -238,7 +238,7 @@ value-returns-in-Variable g t c =
     let U = begun g t d in
     let o = opens_variable b.starts.starts (sym b.starts.node.says.kind ∙ c.in-Variable.is) in
     begun_told g t d _ _ _ c.variable.result
-    (c.variable.ensures c.args.levels c.args.at c.args.name (omega arith) (opened_as (manner_of g.W.Written.LANGUAGE c.args.self) U (a_mark dollar) (variable c.in_ok-lexeme.lexeme.start []) (variable c.in_ok-lexeme.node.place []) refl refl c.requires b o.0 o.1 refl (λ k e. ap (λ n. (variable n [])) (sym (b.starts.node.says.place ∙ ap place_of o.1)))))
+    (c.variable.ensures c.args.levels (omega arith) c.args.at c.args.name (opened_as (manner_of g.W.Written.LANGUAGE c.args.self) U (a_mark dollar) (variable c.in_ok-lexeme.lexeme.start []) (variable c.in_ok-lexeme.node.place []) refl refl c.requires b o.0 o.1 refl (λ k e. ap (λ n. (variable n [])) (sym (b.starts.node.says.place ∙ ap place_of o.1)))))
 
 pub value-returns-in_ok-add-in_default : goal.value-returns-in_ok-add-in_default
 value-returns-in_ok-add-in_default g t c =
