@@ -43,19 +43,19 @@ held_members {T} {at} {p} {ms} s h e f = record {
 }
 
 -- a span that hands out nothing is empty
-pub none_items : (T : Table) (s : Span) (xs : Raws) → HeldAll T s xs → (s.from < s.to → 0 < (node_at T.nodes s.from).size → (node_at T.nodes s.from).size ≤ s.to - s.from → ⊥) → LeadsItems (Held T) (HeldAll T) xs None
+pub none_items : (T : Table) (s : Span) (xs : Raws) → HeldAll T s xs → (0 < (node_at T.nodes s.from).size → (node_at T.nodes s.from).size ≤ s.to - s.from → ⊥) → LeadsItems (Held T) (HeldAll T) xs None
 none_items T s nil h n = tt
 none_items T s (cons x xs) h n =
     let a = (head_of T s.from x h.stand.0).some in
     let b = forward_all T _ s.to xs h.stand.1 in
-    n (omega (arith, a, b)) (omega (arith, a)) (omega (arith, a, b))
+    n (omega (arith, a)) (omega (arith, a, b))
 
-pub none_members : (T : Table) (s : Span) (ms : Mems) → HeldMems T s ms → (s.from < s.to → 0 < (node_at T.nodes s.from).size → (node_at T.nodes s.from).size ≤ s.to - s.from → ⊥) → LeadsMembers (Named T) (Held T) (HeldMems T) ms None
+pub none_members : (T : Table) (s : Span) (ms : Mems) → HeldMems T s ms → (0 < (node_at T.nodes s.from).size → (node_at T.nodes s.from).size ≤ s.to - s.from → ⊥) → LeadsMembers (Named T) (Held T) (HeldMems T) ms None
 none_members T s end h n = tt
 none_members T s (mem m x ms) h n =
     let a = (head_of T s.from x h.stand.1).some in
     let b = forward_mems T _ s.to ms h.stand.2 in
-    n (omega (arith, a, b)) (omega (arith, a)) (omega (arith, a, b))
+    n (omega (arith, a)) (omega (arith, a, b))
 
 -- a search among members: at the first, and past it
 module _ (named : ℕ → List ℕ → Type 0) (stands : ℕ → Raw → Type 0) (members : Span → Mems → Type 0) (q : List ℕ) where

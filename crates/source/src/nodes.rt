@@ -15,8 +15,9 @@ pub struct Node {
     pub place: usize,
     pub flag: bool,
     pub scale: Scale,
-    pub name: Part,
-    pub text: Part,
+    // Of a member's value.
+    pub name: Option<Part>,
+    pub text: Option<Part>,
     // Counts the node and all below it.
     pub size: usize,
 }
@@ -36,13 +37,13 @@ impl Node {
         place: 0,
         flag: false,
         scale: Scale::ZERO,
-        name: Part::EMPTY,
-        text: Part::EMPTY,
+        name: None,
+        text: None,
         size: 0,
     };
 
     // A node with nothing below it yet.
-    pub fn new(kind: Kind, place: usize, name: Part) -> Node
+    pub fn new(kind: Kind, place: usize, name: Option<Part>) -> Node
         ensures { result ≡ headed kind place name }
     {
         Node {
