@@ -26,7 +26,7 @@ pub data FirstFault (language : Language) (text : List ℕ) : Fault → Type 0 w
   reading : {f : Fault} → length text ≤ 65535 → ReadsAll (Sights language text) language true 33 (fails f) → FirstFault language text f
 
 -- the value that the text writes, and no other, stands at the first node of the table
-pub record Parsed (language : Language) (text : List ℕ) (T : Table) : Type 0 where
+pub record Readable (language : Language) (text : List ℕ) (T : Table) : Type 0 where
   pub tree : Raw
   pub writes : Writes language text tree
   pub only : (u : Raw) → Writes language text u → u ≡ tree
@@ -39,7 +39,7 @@ pub record Unreadable (language : Language) (text : List ℕ) (f : Fault) : Type
 
 -- what reading all of a text comes to
 abbrev pub Document : Language → List ℕ → Result Table Fault → Type 0
-Document language text (Ok T) = Parsed language text T
+Document language text (Ok T) = Readable language text T
 Document language text (Err f) = Blames f (Unreadable language text)
 
 -- the same before the limits are told

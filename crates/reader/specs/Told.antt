@@ -1,5 +1,5 @@
 -- What the functions of the reader promise.
-use Rattle.std.specs.Prelude.{◌≡◌, ℕ, ◌-◌, ◌<◌, ◌≤◌, Bool, true, false, List, [], ◌∷◌, ◌++◌, length, take, drop, Ok, Err, Result, vec_items}
+use Rattle.std.specs.Prelude.{◌≡◌, ℕ, ◌-◌, ◌<◌, ◌≤◌, Bool, true, false, List, [], ◌∷◌, ◌++◌, length, take, drop, None, Ok, Err, Option, Result, vec_items}
 use Rattle.std.specs.declared.ops.ControlFlow.{ControlFlow}
 use Rattle.std.specs.declared.ops.ControlFlow.TheVariants.{Continue, Break}
 use Rattle.std.proofs.Math.Option.{none, some}
@@ -19,7 +19,7 @@ use Rattle.names.specs.Parts.{PartFits, bytes_of}
 use Rattle.names.specs.Index.{Sound, names_from}
 use Rattle.source.specs.declared.nodes.Node.{Node}
 use Rattle.source.specs.declared.nodes.Nodes.{Nodes}
-use Rattle.source.specs.Nodes.{node_at, nowhere}
+use Rattle.source.specs.Nodes.{node_at}
 use Rattle.source.specs.Table.{Table, table_of, Says, Stands, StandsAll, StandsMems, Keeps, past_of}
 use Rattle.reader.specs.declared.reading.Reader.{Reader}
 use Rattle.reader.specs.Manner.{Manner}
@@ -60,7 +60,7 @@ abbrev pub bare : List ℕ → List ℕ → Table
 bare text pool = record { text = text; nodes = []; pool = pool }
 
 -- the node of a value, with nothing below it; the pool may have grown
-pub record NodeFor (text before after : List ℕ) (name : Part) (t : Raw) (n : Node) : Type 0 where
+pub record NodeFor (text before after : List ℕ) (name : Option Part) (t : Raw) (n : Node) : Type 0 where
   pub says : Says (bare text after) n t
   pub named : n.name ≡ name
   pub size : n.size ≡ 1
@@ -68,12 +68,12 @@ pub record NodeFor (text before after : List ℕ) (name : Part) (t : Raw) (n : N
   pub grown : after ≡ before ++ more
 
 -- the node of a value that is one token
-pub record LeafNode (text before after : List ℕ) (name : Part) (start : ℕ) (x : Lexical) (n : Node) : Type 0 where
+pub record LeafNode (text before after : List ℕ) (name : Option Part) (start : ℕ) (x : Lexical) (n : Node) : Type 0 where
   pub tree : Raw
   pub leaf : Leaf start x tree
   pub node : NodeFor text before after name tree n
 
-abbrev pub LeafTold : (text before after : List ℕ) → Part → ℕ → Lexical → Result Node Fault → Type 0
+abbrev pub LeafTold : (text before after : List ℕ) → Option Part → ℕ → Lexical → Result Node Fault → Type 0
 LeafTold text before after name start x (Ok n) = LeafNode text before after name start x n
 LeafTold text before after name start x (Err f) = f ≡ NoMemory
 
@@ -89,26 +89,26 @@ PartTold text before after bytes (Ok p) = PartFor text before after bytes p
 PartTold text before after bytes (Err f) = f ≡ NoMemory
 
 -- the node of a value that begins with a token
-pub record StartNode (text before after : List ℕ) (name : Part) (start : ℕ) (x : Lexical) (n : Node) : Type 0 where
+pub record StartNode (text before after : List ℕ) (name : Option Part) (start : ℕ) (x : Lexical) (n : Node) : Type 0 where
   pub tree : Raw
   pub starts : Starts start x tree
   pub node : NodeFor text before after name tree n
 
-abbrev pub StartTold : (text before after : List ℕ) → Part → ℕ → Lexical → Result Node Fault → Type 0
+abbrev pub StartTold : (text before after : List ℕ) → Option Part → ℕ → Lexical → Result Node Fault → Type 0
 StartTold text before after name start x (Ok n) = StartNode text before after name start x n
 StartTold text before after name start x (Err f) = Blames f (λ g. (g ≡ BadText start) × ((t : Raw) → Starts start x t → ⊥))
 
 -- the first token from `at` on, and the node of the value that it begins
-pub record Begun (language : Language) (text : List ℕ) (at : ℕ) (before after : List ℕ) (name : Part) (l : Lexeme) (n : Node) : Type 0 where
+pub record Begun (language : Language) (text : List ℕ) (at : ℕ) (before after : List ℕ) (name : Option Part) (l : Lexeme) (n : Node) : Type 0 where
   pub looks : Looks language text at l
   pub starts : StartNode text before after name l.start looks.lexed.token n
 
-abbrev pub BeginTold : {W : Type 0} → Language → Reader W → ℕ → Part → (before after : List ℕ) → Result (Lexeme × Node) Fault → Type 0
+abbrev pub BeginTold : {W : Type 0} → Language → Reader W → ℕ → Option Part → (before after : List ℕ) → Result (Lexeme × Node) Fault → Type 0
 BeginTold language r at name before after (Ok p) = Begun language r.text.now at before after name p.0 p.1
 BeginTold language r at name before after (Err f) = Blames f (λ g. (d : ℕ) → Reads (Sights language r.text.now) language r.distinct d at (fails g))
 
 -- a value was read from i to j, with d levels left, and its nodes were added
-pub record Added (m : Manner) (text : List ℕ) (d i j : ℕ) (name : Part) (T U : Table) (before after : List Link) : Type 0 where
+pub record Added (m : Manner) (text : List ℕ) (d i j : ℕ) (name : Option Part) (T U : Table) (before after : List Link) : Type 0 where
   pub tree : Raw
   pub reads : Reads (Sights m.language text) m.language m.distinct d i (got j tree)
   pub keeps : Keeps 0 T U
@@ -119,7 +119,7 @@ pub record Added (m : Manner) (text : List ℕ) (d i j : ℕ) (name : Part) (T U
   pub forward : i < j
   pub within : j ≤ length text
 
-abbrev pub Told : Manner → List ℕ → (d i : ℕ) → Part → (T U : Table) (before after : List Link) → Result ℕ Fault → Type 0
+abbrev pub Told : Manner → List ℕ → (d i : ℕ) → Option Part → (T U : Table) (before after : List Link) → Result ℕ Fault → Type 0
 Told m text d i name T U before after (Ok j) = Added m text d i j name T U before after
 Told m text d i name T U before after (Err f) = Blames f (λ g. Reads (Sights m.language text) m.language m.distinct d i (fails g))
 
@@ -132,15 +132,15 @@ abbrev pub links_of : Nodes → List Link
 links_of n = vec_items n.names.links
 
 -- the same of a reader, by the nodes before and after
-abbrev pub ValueTold : {W : Type 0} → Language → Reader W → (d i : ℕ) → Part → (before after : Nodes) → Result ℕ Fault → Type 0
+abbrev pub ValueTold : {W : Type 0} → Language → Reader W → (d i : ℕ) → Option Part → (before after : Nodes) → Result ℕ Fault → Type 0
 ValueTold language r d i name before after result = Told (manner_of language r) r.text.now d i name (table_of r.text.now before) (table_of r.text.now after) (links_of before) (links_of after) result
 
 -- the same of a literal inside another text, at a depth: names may repeat, and it has no name itself
 abbrev pub LiteralTold : List ℕ → (depth i : ℕ) → (before after : Nodes) → Result ℕ Fault → Type 0
-LiteralTold text depth i before after result = Told (record { language = Graphql; distinct = false }) text (33 - depth) i nowhere (table_of text before) (table_of text after) (links_of before) (links_of after) result
+LiteralTold text depth i before after result = Told (record { language = Graphql; distinct = false }) text (33 - depth) i None (table_of text before) (table_of text after) (links_of before) (links_of after) result
 
 -- a mark was seen from i on; it begins the value whose node is n
-pub record Opened (m : Manner) (text : List ℕ) (i at : ℕ) (mark : Lexical) (t : Raw) (T : Table) (name : Part) (n : Node) : Type 0 where
+pub record Opened (m : Manner) (text : List ℕ) (i at : ℕ) (mark : Lexical) (t : Raw) (T : Table) (name : Option Part) (n : Node) : Type 0 where
   pub start : ℕ
   pub seen : Seen m.language text i start at mark
   pub forward : i < at
@@ -151,7 +151,7 @@ pub record Opened (m : Manner) (text : List ℕ) (i at : ℕ) (mark : Lexical) (
 
 -- the value whose node is n, and whose mark ends at `at`
 abbrev pub RestTold : {W : Type 0} → Language → Reader W → (d at : ℕ) → Mark → Raw → Node → (before after : Nodes) → Result ℕ Fault → Type 0
-RestTold language r d at mark t n before after result = (i : ℕ) (name : Part) → Opened (manner_of language r) r.text.now i at (a_mark mark) t (table_of r.text.now before) name n → ValueTold language r d i name before after result
+RestTold language r d at mark t n before after result = (i : ℕ) (name : Option Part) → Opened (manner_of language r) r.text.now i at (a_mark mark) t (table_of r.text.now before) name n → ValueTold language r d i name before after result
 
 -- items were read from i to j, and their nodes were added
 pub record ItemsAdded (m : Manner) (text : List ℕ) (d i j : ℕ) (T U : Table) (before after : List Link) : Type 0 where

@@ -15,11 +15,12 @@ use source::raw::Kind;
 use source::value::Written;
 use text::fault::Fault;
 use text::language::Language;
+use text::number::NumberKind;
 use text::token::{Lexeme, Token};
 use text::{decimal, graphql, json, string};
 
 // The node of a name from `start` to `end`: null, a boolean or an enum value.
-fn word_node(word: &[u8], start: usize, end: usize, name: Part) -> Node
+fn word_node(word: &[u8], start: usize, end: usize, name: Option<Part>) -> Node
     ensures { (text pool : List ℕ) → start ≤ end → end ≤ length text → word.now ≡ cut_out text start end → LeafNode text pool pool name start (a_name word.now) result }
 {
     if word == b"null".as_slice() {
@@ -35,24 +36,29 @@ fn word_node(word: &[u8], start: usize, end: usize, name: Part) -> Node
         return Node::new(Kind::Boolean, start, name);
     }
     Node {
-        text: Part::Text { start, end },
+        text: Some(Part::Text { start, end }),
         ..Node::new(Kind::Enum, start, name)
     }
 }
 
 // The node of a whole number from `start` to `end`, whose normal form ends where it ends.
-fn whole_node(spelled: &[u8], start: usize, end: usize, name: Part) -> Node
+fn whole_node(spelled: &[u8], start: usize, end: usize, name: Option<Part>) -> Node
     ensures { (text pool : List ℕ) → start ≤ end → end ≤ length text → spelled.now ≡ cut_out text start end → LeafNode text pool pool name start (a_number Whole spelled.now) result }
 {
     let from = end.saturating_sub(decimal::whole(spelled).len());
     Node {
-        text: Part::Text { start: from, end },
+        text: Some(Part::Text { start: from, end }),
         ..Node::new(Kind::Whole, start, name)
     }
 }
 
 // The node of a decimal, whose digits in normal form are added to the pool.
-fn decimal_node(spelled: &[u8], start: usize, name: Part, pool: &mut Vec<u8>) -> Result<Node, Fault>
+fn decimal_node(
+    spelled: &[u8],
+    start: usize,
+    name: Option<Part>,
+    pool: &mut Vec<u8>,
+) -> Result<Node, Fault>
     requires { Numeral spelled.now Decimal }
     ensures { (text : List ℕ) → LeafTold text pool.old.items pool.new.items name start (a_number Decimal spelled.now) result }
 {
@@ -60,10 +66,10 @@ fn decimal_node(spelled: &[u8], start: usize, name: Part, pool: &mut Vec<u8>) ->
     let scale = decimal::normal(spelled, pool)?;
     Ok(Node {
         scale,
-        text: Part::Pool {
+        text: Some(Part::Pool {
             start: from,
             end: pool.len(),
-        },
+        }),
         ..Node::new(Kind::Decimal, start, name)
     })
 }
@@ -106,7 +112,12 @@ impl<'a, W: Written> Reader<'a, W> {
     }
 
     // The node of a value that begins with the token; nothing is below it yet.
-    fn node_of(self, lexeme: Lexeme<'_>, name: Part, pool: &mut Vec<u8>) -> Result<Node, Fault>
+    fn node_of(
+        self,
+        lexeme: Lexeme<'_>,
+        name: Option<Part>,
+        pool: &mut Vec<u8>,
+    ) -> Result<Node, Fault>
         requires { (text : List ℕ) × Lexed W.LANGUAGE text lexeme }
         ensures { (text : List ℕ) (k : Lexed W.LANGUAGE text lexeme.entry) → StartTold text pool.old.items pool.new.items name lexeme.entry.start k.token result }
     {
@@ -116,12 +127,14 @@ impl<'a, W: Written> Reader<'a, W> {
             Token::OpenBrace => Ok(Node::new(Kind::Object, start, name)),
             Token::Dollar => Ok(Node::new(Kind::Variable, start, name)),
             Token::Name(word) => Ok(word_node(word, start, end, name)),
-            Token::Whole(spelled) => Ok(whole_node(spelled, start, end, name)),
-            Token::Decimal(spelled) => decimal_node(spelled, start, name, pool),
+            Token::Number(kind, spelled) => match kind {
+                NumberKind::Whole => Ok(whole_node(spelled, start, end, name)),
+                NumberKind::Decimal => decimal_node(spelled, start, name, pool),
+            },
             Token::Text { raw, plain } => {
                 let text = self.string_part(lexeme, raw, plain, pool)?;
                 Ok(Node {
-                    text,
+                    text: Some(text),
                     ..Node::new(Kind::String, start, name)
                 })
             }
@@ -133,7 +146,7 @@ impl<'a, W: Written> Reader<'a, W> {
     pub(crate) fn begin(
         self,
         at: usize,
-        name: Part,
+        name: Option<Part>,
         pool: &mut Vec<u8>,
     ) -> Result<(Lexeme<'a>, Node), Fault>
         ensures { BeginTold W.LANGUAGE self.entry at name pool.old.items pool.new.items result }

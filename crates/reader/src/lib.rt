@@ -4,6 +4,5 @@
 mod begin;
 pub mod document;
 pub mod literal;
-mod marks;
 mod reading;
 mod value;

@@ -4,7 +4,6 @@ ghost use Rattle.text.specs.declared.fault.Fault.TheVariants.{BadText};
 ghost use Rattle.reader.specs.Told.{LiteralTold};
 
 use crate::reading::{LEVELS, Reader};
-use names::part::Part;
 use source::nodes::Nodes;
 use source::value::Graphql;
 pub use source::value::Literal;
@@ -25,5 +24,5 @@ pub fn literal_at(text: &[u8], at: usize, depth: usize, nodes: &mut Nodes) -> Re
         distinct: false,
         language: PhantomData,
     };
-    reader.value(at, LEVELS.saturating_sub(depth), Part::EMPTY, nodes)
+    reader.value(at, LEVELS.saturating_sub(depth), None, nodes)
 }

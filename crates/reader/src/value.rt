@@ -1,11 +1,10 @@
 // The readers of values, lists and objects, which read one another's values.
 ghost use Rattle.std.specs.Prelude.{◌≡◌, ℕ, ◌<◌, ◌≤◌, List as Listing, [], length};
 ghost use Rattle.model.specs.Values.{list as list_of, object as object_of, variable as variable_of, nil, end as no_members};
-ghost use Rattle.text.specs.TokenGrammar.{open_bracket, open_brace, dollar};
-ghost use Rattle.reader.specs.Closings.{mark_of};
+ghost use Rattle.text.specs.TokenFound.{v_mark, view_of};
+ghost use Rattle.text.specs.TokenGrammar.{Mark, open_bracket, open_brace, dollar};
 ghost use Rattle.reader.specs.Told.{Lexed, NamePartTold, ValueTold, RestTold, ItemsTold, MembersTold, MemberTold, RegisterTold, TurnTold};
 
-use crate::marks::Mark;
 use crate::reading::Reader;
 use names::names::Names;
 use names::part::{Holder, Part};
@@ -20,18 +19,17 @@ use text::token::{Lexeme, Token};
 
 impl<W: Written> Reader<'_, W> {
     // How it goes on after a value that ends at `at`.
-    fn step(self, at: usize, closing: Mark) -> Result<ControlFlow<usize, usize>, Fault>
+    fn step(self, at: usize, closing: Token<'_>) -> Result<ControlFlow<usize, usize>, Fault>
         requires { at ≤ length self.text.now }
-        ensures { TurnTold W.LANGUAGE self.entry.text.now (mark_of closing) at result }
+        ensures { (m : Mark) → view_of closing.entry ≡ v_mark m → TurnTold W.LANGUAGE self.entry.text.now m at result }
     {
         let lexeme = self.token(at)?;
-        if closing.is(lexeme.token) {
+        if lexeme.token == closing {
             return Ok(ControlFlow::Break(lexeme.end));
         }
-        let comma = Mark::Comma.is(lexeme.token);
         match W::LANGUAGE {
             Language::Graphql => Ok(ControlFlow::Continue(at)),
-            Language::Json if comma => Ok(ControlFlow::Continue(lexeme.end)),
+            Language::Json if lexeme.token == Token::Comma => Ok(ControlFlow::Continue(lexeme.end)),
             Language::Json => Err(Fault::BadText(lexeme.start)),
         }
     }
@@ -94,7 +92,7 @@ impl<W: Written> Reader<'_, W> {
             return Err(Fault::RepeatedName(lexeme.start));
         }
         let colon = self.token(lexeme.end)?;
-        if !Mark::Colon.is(colon.token) {
+        if colon.token != Token::Colon {
             return Err(Fault::BadText(colon.start));
         }
         Ok((name, colon.end))
@@ -110,10 +108,10 @@ impl<W: Written> Reader<'_, W> {
             return Err(Fault::BadText(lexeme.start));
         };
         nodes.add(Node {
-            text: Part::Text {
+            text: Some(Part::Text {
                 start: lexeme.start,
                 end: lexeme.end,
-            },
+            }),
             ..node
         })?;
         Ok(lexeme.end)
@@ -125,7 +123,7 @@ impl<W: Written> Reader<'_, W> {
         self,
         at: usize,
         levels: usize,
-        name: Part,
+        name: Option<Part>,
         nodes: &mut Nodes,
     ) -> Result<usize, Fault>
         requires { at ≤ length self.text.now }
@@ -167,13 +165,13 @@ impl<W: Written> Reader<'_, W> {
         ensures { ItemsTold W.LANGUAGE self.entry levels at nodes.old nodes.new result }
     {
         let first = self.token(at)?;
-        if Mark::CloseBracket.is(first.token) {
+        if first.token == Token::CloseBracket {
             return Ok(first.end);
         }
         let mut next = at;
         loop {
-            let end = self.value(next, levels, Part::EMPTY, nodes)?;
-            match self.step(end, Mark::CloseBracket)? {
+            let end = self.value(next, levels, None, nodes)?;
+            match self.step(end, Token::CloseBracket)? {
                 ControlFlow::Continue(at) => next = at,
                 ControlFlow::Break(end) => return Ok(end),
             }
@@ -210,14 +208,14 @@ impl<W: Written> Reader<'_, W> {
         ensures { MembersTold W.LANGUAGE self.entry levels at base nodes.old nodes.new result }
     {
         let first = self.token(at)?;
-        if Mark::CloseBrace.is(first.token) {
+        if first.token == Token::CloseBrace {
             return Ok(first.end);
         }
         let mut next = at;
         loop {
             let (name, onward) = self.member_name(next, base, nodes)?;
-            let end = self.value(onward, levels, name, nodes)?;
-            match self.step(end, Mark::CloseBrace)? {
+            let end = self.value(onward, levels, Some(name), nodes)?;
+            match self.step(end, Token::CloseBrace)? {
                 ControlFlow::Continue(at) => next = at,
                 ControlFlow::Break(end) => return Ok(end),
             }

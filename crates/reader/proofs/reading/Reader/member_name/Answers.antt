@@ -1,7 +1,8 @@
-use Rattle.std.proofs.Common.{◌≡◌, ◌≤◌, true, false, List, [], ◌∷◌, ◌++◌, length, take, vec_items, sym, refl, subst, arith}
+use Rattle.std.proofs.Common.{◌≡◌, ◌≤◌, false, List, [], ◌∷◌, ◌++◌, length, take, vec_items, sym, refl, subst, arith, rules}
 use Rattle.std.proofs.Math.Option.{some}
 use Rattle.model.specs.Values.{Name}
 use Rattle.std.proofs.lemmas.Result.{err_from_is_err_and}
+use Rattle.text.specs.TokenFound.{view_of, v_mark}
 use Rattle.text.specs.TokenGrammar.{colon}
 use Rattle.reader.specs.Tokens.{Sight, Sights, sees, blind}
 use Rattle.reader.specs.Grammar.{name_of}
@@ -9,7 +10,7 @@ use Rattle.reader.specs.Told.{PartFor, NamesHeld, manner_of}
 use Rattle.reader.specs.Reading.{Out, NameAt, repeats, colon_after, na_blind, na_none, na_long, na_repeated, na_name}
 use Rattle.reader.proofs.Growing.{NameFails, blames_all, blames_map}
 use Rattle.reader.proofs.Naming.{part_length, name_fresh, name_known, colon_there, colon_lacks}
-use Rattle.reader.proofs.TokenKinds.{mark_by, mark_some}
+use Rattle.reader.proofs.TokenKinds.{marked, unmarked, mark_some}
 use Rattle.reader.proofs.reading.Reader.member_name.Given.{Over}
 use Rattle.reader.proofs.reading.Reader.member_name.Goals as goal
 use Rattle.reader.proofs.reading.Reader.member_name.Goals.{In_ok-name, Else-len-gt-LONGEST_NAME, Else-not-branch}
@@ -65,12 +66,15 @@ returns-in_err-colon-clause-told g c ns h =
     (blames_all (NameFails (manner_of g.W.Written.LANGUAGE c.args.self) c.args.self.text.now ns c.args.at) _
     (seen_after g (goal.at.returns-in_err-colon-clause-told g c).Else-not-branch ns h (blind c.in_err-colon.field-0.0) c.in_err-colon.ensures refl))
 
-pub returns-then-not-is-clause-told : goal.returns-then-not-is-clause-told
-returns-then-not-is-clause-told g c ns h =
+pub returns-then-ne-clause-told : goal.returns-then-ne-clause-told
+returns-then-ne-clause-told g c ns h =
     let j = c.in_ok-colon.ensures in
     let l = c.in_ok-colon.colon in
-    seen_after g (goal.at.returns-then-not-is-clause-told g c).Else-not-branch ns h (sees l.start l.end j.lexed.token) j.seen
-    (colon_lacks _ l.start l.end j.lexed.token (mark_by j.lexed colon c.is.result false c.is.ensures c.if-not-is.true))
+    let e = c.ne.ensures in
+    let y = c.if-ne.true in
+    let m : view_of l.token ≡ v_mark colon → ⊥ = search rules in
+    seen_after g (goal.at.returns-then-ne-clause-told g c).Else-not-branch ns h (sees l.start l.end j.lexed.token) j.seen
+    (colon_lacks _ l.start l.end j.lexed.token (unmarked j.lexed colon m))
 
 pub returns-clause-told : goal.returns-clause-told
 returns-clause-told g c ns h =
@@ -78,14 +82,17 @@ returns-clause-told g c ns h =
     let j = c.in_ok-colon.ensures in
     let l = c.in_ok-colon.colon in
     let d = (goal.at.returns-clause-told g c).Else-not-branch in
+    let e = c.ne.ensures in
+    let y = c.if-ne.false in
+    let m : view_of l.token ≡ v_mark colon = search rules in
     let r = fresh g d ns h in
     record {
       name = name g d ns h;
-      reads = seen_after g d ns h (sees l.start l.end j.lexed.token) j.seen (colon_there _ l.start l.end j.lexed.token (mark_by j.lexed colon c.is.result true c.is.ensures c.if-not-is.false));
+      reads = seen_after g d ns h (sees l.start l.end j.lexed.token) j.seen (colon_there _ l.start l.end j.lexed.token (marked j.lexed colon m));
       part = (named g (goal.at.returns-clause-told g c).In_ok-name).2;
       held = r.1;
       below = r.2;
       within = r.3;
-      forward = omega (arith, k.onward c.requires.within, k.lexed.ordered, j.onward k.lexed.within, mark_some j.lexed colon c.is.result c.is.ensures c.if-not-is.false);
+      forward = omega (arith, k.onward c.requires.within, k.lexed.ordered, j.onward k.lexed.within, mark_some j.lexed colon m);
       inside = j.lexed.within;
     }

@@ -1,14 +1,13 @@
-use Rattle.std.proofs.Common.{length, refl, ap, subst}
+use Rattle.std.proofs.Common.{◌≡◌, length, refl, ap, subst, rules}
 use Rattle.std.proofs.lemmas.Result.{err_from_is_err_and}
 use Rattle.source.specs.Table.{Stands, table_of}
-use Rattle.text.specs.declared.token.Token.TheVariants.{End}
+use Rattle.text.specs.TokenFound.{View, v_end, view_of, Holds}
 use Rattle.text.specs.TokenGrammar.{Lexical}
 use Rattle.reader.specs.Tokens.{sees, blind}
 use Rattle.reader.specs.Reading.{all_fails, all_read, after_all}
 use Rattle.reader.specs.Document.{FaultWhole, whole_long, whole_read}
 use Rattle.reader.specs.Told.{manner_of}
 use Rattle.reader.proofs.Growing.{ValueFails, blames_all, blames_map}
-use Rattle.reader.proofs.Beginning.{holds_as}
 use Rattle.reader.proofs.TokenKinds.{not_last}
 use Rattle.reader.proofs.reading.Reader.whole.Goals as goal
 
@@ -28,12 +27,15 @@ returns-in_err-after g c =
     let p = err_from_is_err_and c.from_residual-in_err-after.result c.from_residual-in_err-after.ensures.1 in
     rw (p.1, p.2) (blames_all (FaultWhole (manner_of g.W.Written.LANGUAGE c.args.self) c.args.self.text.now) _ (whole_read c.if-self-gt-LONGEST_TEXT.false (all_read {v = blind c.in_err-after.field-0.0} a.reads c.in_err-after.ensures refl)))
 
-pub returns-in-End : goal.returns-in-End
-returns-in-End g c =
+pub returns : goal.returns
+returns g c =
     let a = c.in_ok-end.ensures in
     let k = c.in_ok-after.ensures in
     let l = c.in_ok-after.after in
-    let h = holds_as k.lexed End c.in-End.is in
+    let e = c.ne.ensures in
+    let t = c.if-ne.false in
+    let v : view_of l.token ≡ v_end = search rules in
+    let h = subst (λ (v : View). Holds g.W.Written.LANGUAGE c.args.self.text.now l.start l.end v k.lexed.token) v k.lexed.holds in
     record {
       tree = a.tree;
       end = l.end;
@@ -42,10 +44,13 @@ returns-in-End g c =
       stands = subst (λ n. Stands (table_of c.args.self.text.now c.value.new.nodes) n a.tree) (ap length c.new-nodes.ensures.list) a.stands;
     }
 
-pub returns : goal.returns
-returns g c =
+pub returns-then-ne : goal.returns-then-ne
+returns-then-ne g c =
     let a = c.in_ok-end.ensures in
     let k = c.in_ok-after.ensures in
     let l = c.in_ok-after.after in
+    let e = c.ne.ensures in
+    let t = c.if-ne.true in
+    let n : view_of l.token ≡ v_end → ⊥ = search rules in
     whole_read c.if-self-gt-LONGEST_TEXT.false
-    (all_read {v = sees l.start l.end k.lexed.token} a.reads k.seen (not_last g.W.Written.LANGUAGE c.args.self.text.now l.start l.end k.lexed.token l.token a.tree l.start l.end c.in_default.not-End k.lexed.holds))
+    (all_read {v = sees l.start l.end k.lexed.token} a.reads k.seen (not_last g.W.Written.LANGUAGE c.args.self.text.now l.start l.end k.lexed.token (view_of l.token) a.tree l.start l.end n k.lexed.holds))
