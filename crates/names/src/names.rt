@@ -15,6 +15,7 @@ const FNV_OFFSET: u32 = 2166136261;
 const FNV_PRIME: u32 = 16777619;
 
 // A name, and the links at which the search goes on, on either side.
+// Links are told by their index: no name costs an allocation.
 #[derive(Clone, Copy, Debug)]
 pub struct Link {
     pub name: Part,

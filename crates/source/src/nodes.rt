@@ -9,6 +9,7 @@ use std::alloc::{AllocError, Global};
 use text::decimal::Scale;
 
 // A value; those inside it follow it in the table.
+// No enum: `Source` asks for kind, flag, scale and text apart, of any node.
 #[derive(Clone, Copy, Debug)]
 pub struct Node {
     pub kind: Kind,
@@ -22,6 +23,7 @@ pub struct Node {
     pub size: usize,
 }
 
+// One table for a text: no value costs an allocation.
 #[derive(Drop)]
 pub struct Nodes {
     pub list: Vec<Node>,
@@ -85,9 +87,9 @@ impl Nodes {
         ensures pool { self.new.pool ≡ self.old.pool }
         ensures names { self.new.names ≡ self.old.names }
     {
-        if at < self.list.len() {
-            let size = self.list.len() - at;
-            self.list[at].size = size;
+        let len = self.list.len();
+        if let Some(node) = self.list.get_mut(at) {
+            node.size = len - at;
         }
     }
 

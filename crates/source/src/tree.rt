@@ -14,6 +14,7 @@ impl<'a> Tree<'a> {
     // Whether the value is a variable or holds one.
     pub fn holds_variable(&self, at: usize) -> bool {
         let size = self.nodes.get(at).size;
+        // A slice: `skip` would step over each node before `at`.
         let from = self.nodes.list.get(at..).unwrap_or_default();
         from.iter()
             .take(size)
@@ -23,14 +24,9 @@ impl<'a> Tree<'a> {
     // The place of the object's first member whose name an earlier member has.
     fn repeated_in(&self, object: usize) -> Option<usize> {
         let literal = Literal::new(self, object);
-        let mut span = literal.inside(object);
-        while let Some((at, rest)) = literal.next(span) {
-            if literal.member(object, literal.name(at)) != Some(at) {
-                return self.nodes.get(at).name.map(Part::start);
-            }
-            span = rest;
-        }
-        None
+        let at = literal.values(object).find(|at| literal.member(object, literal.name(*at))
+            != Some(*at))?;
+        self.nodes.get(at).name.map(Part::start)
     }
 
     // The least place of a member's name that an earlier member of the same object has.

@@ -79,6 +79,7 @@ impl<'t, 'a, W> Value<'t, 'a, W> {
             text: self.tree.text,
             pool: &self.tree.nodes.pool,
         };
+        // A match: what a closure gives `map` does not show here.
         match part {
             Some(part) => part.bytes(holder),
             None => &[],
