@@ -3,7 +3,7 @@ use Rattle.std.proofs.Common.{◌≡◌, ℕ, ◌+◌, ◌-◌, ◌<◌, ◌≤�
 use Rattle.std.proofs.lemmas.List.{take_all}
 use Rattle.model.specs.Values.{Name, Raw, Raws, Mems, list, object, nil, cons, end, mem}
 use Rattle.text.specs.declared.fault.Fault.{Fault}
-use Rattle.text.specs.declared.fault.Fault.TheVariants.{BadText, TooDeep, NoSpace, RepeatedName, LongNumber, NoMemory}
+use Rattle.text.specs.declared.fault.Fault.TheVariants.{NoMemory}
 use Rattle.text.specs.TokenGrammar.{Lexical, a_mark, open_bracket, close_bracket, open_brace, close_brace}
 use Rattle.names.specs.declared.names.Link.{Link}
 use Rattle.names.specs.declared.part.Part.{Part}
@@ -14,7 +14,7 @@ use Rattle.source.specs.Table.{Table, Says, Named, Stands, StandsAll, StandsMems
 use Rattle.source.proofs.Keeping.{keeps_all, keeps_on, says_kept, stands_kept, all_kept, mems_kept, past_kept, named_kept, fits_kept, bytes_kept}
 use Rattle.source.specs.OneTree.{head_of}
 use Rattle.reader.specs.Manner.{Manner}
-use Rattle.reader.specs.Grammar.{Leaf, l_null, l_true, l_false, l_symbol, l_whole, l_decimal, l_string}
+use Rattle.reader.specs.Grammar.{Leaf, l_null}
 use Rattle.reader.specs.Tokens.{Sight, sees, Sights}
 use Rattle.reader.specs.Reading.{got, fails, turn, done, again, sees_mark, NameAt, Reads, ReadsList, ReadsObject, r_list, r_object, rl_nil, rl_items, ReadsItems, ri_last, ri_more, ro_end, ro_members, ReadsMembers, rm_last, rm_more}
 use Rattle.reader.specs.Told.{Blames, Added, Told, Opened, ItemsAdded, MembersAdded, NameRead}
@@ -34,20 +34,12 @@ abbrev pub NameFails : Manner → List ℕ → List Name → ℕ → Fault → T
 NameFails m text ns i g = NameAt (Sights m.language text) m.language m.distinct ns i (fails g)
 
 pub blames_map : (P Q : Fault → Type 0) → ((g : Fault) → P g → Q g) → (f : Fault) → Blames f P → Blames f Q
-blames_map P Q h (BadText k) p = h (BadText k) p
-blames_map P Q h (TooDeep k) p = h (TooDeep k) p
-blames_map P Q h (NoSpace k) p = h (NoSpace k) p
-blames_map P Q h (RepeatedName k) p = h (RepeatedName k) p
-blames_map P Q h (LongNumber k) p = h (LongNumber k) p
 blames_map P Q h NoMemory p = tt
+blames_map P Q h _ p = h _ p
 
 pub blames_all : (P : Fault → Type 0) (f : Fault) → P f → Blames f P
-blames_all P (BadText k) p = p
-blames_all P (TooDeep k) p = p
-blames_all P (NoSpace k) p = p
-blames_all P (RepeatedName k) p = p
-blames_all P (LongNumber k) p = p
 blames_all P NoMemory p = tt
+blames_all P _ p = p
 
 -- the items from i to here are read, and their nodes stand after those of T;
 -- what the items from here on come to, the items from i on do
@@ -300,9 +292,4 @@ leaf_added {T = T} {U} t before after r p z e s l h w =
 
 pub leaf_stands : {T U : Table} {n : Node} {s : ℕ} {x : Lexical} {t : Raw} → Leaf s x t → Pushed T U n → Says T n t → n.size ≡ 1 → Stands U (length T.nodes) t
 leaf_stands (l_null e) p s z = (leaf_head p s z, ap (λ (k : Node). k.size) (pushed_node p) ∙ z)
-leaf_stands (l_true e) p s z = (leaf_head p s z, ap (λ (k : Node). k.size) (pushed_node p) ∙ z)
-leaf_stands (l_false e) p s z = (leaf_head p s z, ap (λ (k : Node). k.size) (pushed_node p) ∙ z)
-leaf_stands (l_symbol a b c) p s z = (leaf_head p s z, ap (λ (k : Node). k.size) (pushed_node p) ∙ z)
-leaf_stands (l_whole w) p s z = (leaf_head p s z, ap (λ (k : Node). k.size) (pushed_node p) ∙ z)
-leaf_stands (l_decimal w) p s z = (leaf_head p s z, ap (λ (k : Node). k.size) (pushed_node p) ∙ z)
-leaf_stands (l_string e) p s z = (leaf_head p s z, ap (λ (k : Node). k.size) (pushed_node p) ∙ z)
+leaf_stands _ p s z = (leaf_head p s z, ap (λ (k : Node). k.size) (pushed_node p) ∙ z)

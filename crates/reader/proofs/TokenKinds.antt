@@ -1,7 +1,7 @@
 -- What a token is, as the grammar sees it.
-use Rattle.std.proofs.Common.{◌≡◌, ◌≢◌, ℕ, ◌<◌, ◌≤◌, true, false, List, [], length, Option, sym, refl, ap, ◌∙◌, subst, ⊎_elim, arith}
+use Rattle.std.proofs.Common.{◌≡◌, ◌≢◌, ℕ, ◌<◌, ◌≤◌, true, false, List, [], length, Option, sym, refl, ap, ◌∙◌, subst, arith}
 use Rattle.std.proofs.lemmas.Grind.{common_steps}
-use Rattle.std.proofs.lemmas.Bool.{cond-true, cond-false, cases_Bool}
+use Rattle.std.proofs.lemmas.Bool.{cond-true, cond-false, false_from_ne_true}
 use Rattle.model.specs.Values.{Raw, list, object, variable, nil, end, place_of}
 use Rattle.text.specs.declared.fault.Fault.TheVariants.{BadText}
 use Rattle.text.specs.declared.language.Language.{Language}
@@ -12,7 +12,7 @@ use Rattle.text.specs.declared.token.Token.{Token}
 use Rattle.text.specs.declared.token.Token.TheVariants.{Name, Number, Text, End}
 use Rattle.text.specs.Places.{is_end}
 use Rattle.text.specs.TokenGrammar.{Mark, dollar, open_bracket, open_brace, comma, Lexical, a_mark, the_end}
-use Rattle.text.specs.TokenFound.{View, v_mark, v_name, v_number, v_text, v_end, view_of, Holds}
+use Rattle.text.specs.TokenFound.{View, v_mark, v_text, v_end, view_of, Holds}
 use Rattle.names.specs.declared.part.Part.{Part}
 use Rattle.source.specs.declared.nodes.Node.{Node}
 use Rattle.source.specs.declared.raw.Kind.TheVariants.{Variable, List as ListKind, Object}
@@ -27,33 +27,44 @@ use Rattle.reader.proofs.Beginning.{begins_not}
 use Rattle.reader.proofs.RdSound.{mark_is, is_mark_lem}
 use Rattle.reader.proofs.Tables.{says_bare}
 
--- the token of the grammar, where that of the program is a mark, and where it is none
-pub mark_there : {language : Language} {text : List ℕ} {l : Lexeme} (k : Lexed language text l) (m : Mark) → view_of l.token ≡ v_mark m → k.token ≡ a_mark m
-mark_there {language} {text} {l} k m e = subst (λ (v : View). Holds language text l.start l.end v k.token) e k.holds
+-- a token that is not the end has a length
+goes : (t : Token) → (view_of t ≡ v_end → ⊥) → is_end t ≡ false
+goes End n = absurd (n refl)
+goes _ n = refl
 
+-- a token of the program is a mark, or is not, by whether it is equal to that mark
+equal_mark : (a b : Token) (m : Mark) → token_eq.ghosts.eq a b ≡ true → view_of b ≡ v_mark m → view_of a ≡ v_mark m
+equal_mark a b m e h = grind (arith, common_steps)
+
+other_mark : (a b : Token) (m : Mark) → token_eq.ghosts.eq a b ≡ false → view_of b ≡ v_mark m → view_of a ≡ v_mark m → ⊥
+other_mark a b m e h v = grind (arith, common_steps)
+
+-- and the token of the grammar with it
 view_there : (language : Language) (text : List ℕ) (i j : ℕ) (v : View) (x : Lexical) (m : Mark) → Holds language text i j v x → x ≡ a_mark m → v ≡ v_mark m
 view_there language text i j (v_mark k) x m h e = let d = sym h ∙ e in cc
-view_there language text i j (v_name s) x m h e = let d = sym h.0 ∙ e in cc
-view_there language text i j (v_number k s) x m h e = let d = sym h.0 ∙ e in cc
 view_there language text i j (v_text s p) x m h e = let d = sym h.1.1 ∙ e in cc
-view_there language text i j v_end x m h e = let d = sym h.0 ∙ e in cc
+view_there language text i j _ x m h e = let d = sym h.0 ∙ e in cc
 
-pub marked : {language : Language} {text : List ℕ} {l : Lexeme} (k : Lexed language text l) (m : Mark) → view_of l.token ≡ v_mark m → is_mark m k.token ≡ true
-marked k m e = ap (is_mark m) (mark_there k m e) ∙ is_mark_lem m
+module _ {language : Language} {text : List ℕ} {l : Lexeme} (k : Lexed language text l) (b : Token) (m : Mark) (h : view_of b ≡ v_mark m) where
+  pub marked : token_eq.ghosts.eq l.token b ≡ true → k.token ≡ a_mark m
+  marked e = subst (λ (v : View). Holds language text l.start l.end v k.token) (equal_mark l.token b m e h) k.holds
 
-pub unmarked : {language : Language} {text : List ℕ} {l : Lexeme} (k : Lexed language text l) (m : Mark) → (view_of l.token ≡ v_mark m → ⊥) → is_mark m k.token ≡ false
-unmarked {language} {text} {l} k m n = ⊎_elim (λ t. absurd (n (view_there language text l.start l.end (view_of l.token) k.token m k.holds (mark_is m k.token t)))) (λ f. f) (cases_Bool (is_mark m k.token))
+  pub mark_some : token_eq.ghosts.eq l.token b ≡ true → l.start < l.end
+  mark_some e = k.some (goes l.token (λ n. let d = sym (equal_mark l.token b m e h) ∙ n in cc))
+
+  pub unmarked : token_eq.ghosts.eq l.token b ≡ false → is_mark m k.token ≡ false
+  unmarked e = false_from_ne_true (is_mark m k.token) (λ t. other_mark l.token b m e h (view_there language text l.start l.end (view_of l.token) k.token m k.holds (mark_is m k.token t)))
 
 -- how it goes on, by the token
-pub turn_closes : (language : Language) (close : Mark) (j s e : ℕ) (x : Lexical) → is_mark close x ≡ true → turn language close j (sees s e x) ≡ done e
-turn_closes Json close j s e x h = cond-true (is_mark close x) _ _ h
-turn_closes Graphql close j s e x h = cond-true (is_mark close x) _ _ h
+pub turn_closes : (language : Language) (close : Mark) (j s e : ℕ) (x : Lexical) → x ≡ a_mark close → turn language close j (sees s e x) ≡ done e
+turn_closes Json close j s e x h = cond-true (is_mark close x) _ _ (ap (is_mark close) h ∙ is_mark_lem close)
+turn_closes Graphql close j s e x h = cond-true (is_mark close x) _ _ (ap (is_mark close) h ∙ is_mark_lem close)
 
 pub turn_goes : (close : Mark) (j s e : ℕ) (x : Lexical) → is_mark close x ≡ false → turn Graphql close j (sees s e x) ≡ again j
 turn_goes close j s e x h = cond-false (is_mark close x) _ _ h
 
-pub turn_comma : (close : Mark) (j s e : ℕ) (x : Lexical) → is_mark close x ≡ false → is_mark comma x ≡ true → turn Json close j (sees s e x) ≡ again e
-turn_comma close j s e x h k = cond-false (is_mark close x) _ _ h ∙ cond-true (is_mark comma x) _ _ k
+pub turn_comma : (close : Mark) (j s e : ℕ) (x : Lexical) → is_mark close x ≡ false → x ≡ a_mark comma → turn Json close j (sees s e x) ≡ again e
+turn_comma close j s e x h k = cond-false (is_mark close x) _ _ h ∙ cond-true (is_mark comma x) _ _ (ap (is_mark comma) k)
 
 pub turn_bad : (close : Mark) (j s e : ℕ) (x : Lexical) → is_mark close x ≡ false → is_mark comma x ≡ false → turn Json close j (sees s e x) ≡ halts (BadText s)
 turn_bad close j s e x h k = cond-false (is_mark close x) _ _ h ∙ cond-false (is_mark comma x) _ _ k
@@ -62,14 +73,7 @@ pub turn_blind : (language : Language) (close : Mark) (j : ℕ) (f : Rattle.text
 turn_blind Json close j f = refl
 turn_blind Graphql close j f = refl
 
--- a mark, or what begins a value, is not the end of the text
-goes : (t : Token) → (view_of t ≡ v_end → ⊥) → is_end t ≡ false
-goes End n = absurd (n refl)
-goes _ n = refl
-
-pub mark_some : {language : Language} {text : List ℕ} {l : Lexeme} (k : Lexed language text l) (m : Mark) → view_of l.token ≡ v_mark m → l.start < l.end
-mark_some {l = l} k m e = k.some (goes l.token (λ n. let d = sym e ∙ n in cc))
-
+-- what begins a value is not the end of the text
 start_some : {language : Language} {text : List ℕ} {l : Lexeme} (k : Lexed language text l) {s : ℕ} {u : Raw} → Starts s k.token u → l.start < l.end
 start_some {language} {text} {l} k s = k.some (goes l.token (λ n. begins_not the_end (subst (λ (v : View). Holds language text l.start l.end v k.token) n k.holds).0 refl s))
 
@@ -136,7 +140,3 @@ not_last language text i j x (v_mark m) u b e n h = ap (λ y. after_all u (sees 
 not_last language text i j x (v_text s p) u b e n h = ap (λ y. after_all u (sees b e y)) h.1.1
 not_last language text i j x v_end u b e n h = absurd (n refl)
 not_last language text i j x _ u b e n h = ap (λ y. after_all u (sees b e y)) h.0
-
--- a token that is equal to a mark is that mark
-pub same_mark : (a b : Token) (m : Mark) → token_eq.ghosts.eq a b ≡ true → view_of b ≡ v_mark m → view_of a ≡ v_mark m
-same_mark a b m e h = grind (arith, common_steps)

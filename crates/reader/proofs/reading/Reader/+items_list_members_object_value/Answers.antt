@@ -1,4 +1,4 @@
-use Rattle.std.proofs.Common.{◌≡◌, ℕ, ControlFlow, ◌-◌, ◌≤◌, [], ◌∷◌, ◌++◌, length, take, List, Ok, Result, vec_items, sym, refl, ap, ◌∙◌, subst, arith, rules}
+use Rattle.std.proofs.Common.{◌≡◌, ℕ, ControlFlow, ◌-◌, ◌≤◌, [], ◌∷◌, ◌++◌, length, take, List, Ok, Result, vec_items, sym, refl, ap, ◌∙◌, subst, arith}
 use Rattle.std.proofs.lemmas.Result.{err_from_is_err_and}
 use Rattle.model.specs.Values.{list, object, variable, nil, end, place_of}
 use Rattle.names.specs.declared.names.Link.{Link}
@@ -7,14 +7,14 @@ use Rattle.source.specs.Nodes.{closed}
 use Rattle.source.specs.Table.{Table, Says, table_of}
 use Rattle.text.specs.declared.fault.Fault.{Fault}
 use Rattle.text.specs.TokenGrammar.{Lexical, a_mark, open_bracket, close_bracket, open_brace, close_brace, dollar}
-use Rattle.text.specs.TokenFound.{view_of, v_mark}
+use Rattle.text.specs.declared.token.Token.TheVariants.{CloseBracket, CloseBrace}
 use Rattle.reader.specs.Tokens.{Sights, sees, blind, Seen}
 use Rattle.reader.specs.Reading.{fails, r_deep, r_leaf, r_list, r_object, ReadsList, ReadsItems, rl_items, ri_fails, ri_halts, ReadsObject, ReadsMembers, ro_members, rm_unnamed, rm_fails, rm_halts, r_blind, na_blind}
 use Rattle.reader.specs.Told.{Told, StepIs, NamesHeld, bare, manner_of}
 use Rattle.reader.proofs.Growing.{ValueFails, ListFails, ObjectFails, NameFails, blames_all, blames_map, items_step, items_done, items_none, list_closed, relinked, members_start, member_read, members_step, members_done, members_none, object_closed, told_pooled, leaf_added, leaf_stands}
 use Rattle.reader.proofs.Naming.{held_none, held_pool}
 use Rattle.reader.proofs.Tables.{Pushed, Pooled, Closed, says_bare}
-use Rattle.reader.proofs.TokenKinds.{mark_there, unmarked, mark_some, opens_list, opens_object, opens_variable, is_leaf, opened_as, begun_goes}
+use Rattle.reader.proofs.TokenKinds.{marked, unmarked, mark_some, opens_list, opens_object, opens_variable, is_leaf, opened_as, begun_goes}
 use Rattle.reader.proofs.reading.Reader.+items_list_members_object_value.Given.{Over}
 use Rattle.reader.proofs.reading.Reader.+items_list_members_object_value.Goals as goal
 use Rattle.reader.proofs.reading.Reader.+items_list_members_object_value.Goals.{items-At-loop-end, members-At-loop-name, value-In_ok-lexeme}
@@ -29,11 +29,9 @@ pub items-returns-then-eq : goal.items-returns-then-eq
 items-returns-then-eq g t c =
     let k = c.in_ok-first.ensures in
     let l = c.in_ok-first.first in
-    let e = c.eq.ensures in
-    let y = c.if-eq.true in
-    let m : view_of l.token ≡ v_mark close_bracket = search rules in
-    items_none _ _ (subst (λ (x : Lexical). Seen g.W.Written.LANGUAGE c.args.self.text.now c.args.at l.start l.end x) (mark_there k.lexed close_bracket m) k.seen)
-    (omega (arith, k.onward c.requires, mark_some k.lexed close_bracket m)) k.lexed.within
+    let e = sym c.eq.ensures ∙ c.if-eq.true in
+    items_none _ _ (subst (λ (x : Lexical). Seen g.W.Written.LANGUAGE c.args.self.text.now c.args.at l.start l.end x) (marked k.lexed CloseBracket close_bracket refl e) k.seen)
+    (omega (arith, k.onward c.requires, mark_some k.lexed CloseBracket close_bracket refl e)) k.lexed.within
 
 -- the list is not at its end, and fails where its items do
 items-fail : (g : Over) (t : ℕ) (c : items-At-loop-end g t) (f : Fault) → ReadsItems (Sights g.W.Written.LANGUAGE c.args.self.text.now) g.W.Written.LANGUAGE c.args.self.distinct c.args.levels c.loop-end.next (fails f)
@@ -41,10 +39,8 @@ items-fail : (g : Over) (t : ℕ) (c : items-At-loop-end g t) (f : Fault) → Re
 items-fail g t c f r =
     let k = c.in_ok-first.ensures in
     let l = c.in_ok-first.first in
-    let e = c.eq.ensures in
-    let y = c.if-eq.false in
-    let m : view_of l.token ≡ v_mark close_bracket → ⊥ = search rules in
-    rl_items {v = sees l.start l.end k.lexed.token} k.seen (unmarked k.lexed close_bracket m) (c.loop-end.invariant.0.faults f r)
+    let e = unmarked k.lexed CloseBracket close_bracket refl (sym c.eq.ensures ∙ c.if-eq.false) in
+    rl_items {v = sees l.start l.end k.lexed.token} k.seen e (c.loop-end.invariant.0.faults f r)
 
 pub items-returns-in_err-end : goal.items-returns-in_err-end
 items-returns-in_err-end g t c =
@@ -71,13 +67,11 @@ pub items-returns-in-Break : goal.items-returns-in-Break
 items-returns-in-Break g t c =
     let k = c.in_ok-first.ensures in
     let l = c.in_ok-first.first in
-    let e = c.eq.ensures in
-    let y = c.if-eq.false in
-    let m : view_of l.token ≡ v_mark close_bracket → ⊥ = search rules in
+    let e = unmarked k.lexed CloseBracket close_bracket refl (sym c.eq.ensures ∙ c.if-eq.false) in
     let a = c.in_ok-end.ensures in
     let s = c.in_ok-at.ensures close_bracket refl in
     let q = subst (λ (x : ControlFlow ℕ ℕ). StepIs g.W.Written.LANGUAGE close_bracket c.in_ok-end.end s.0 c.args.self.text.now x) c.in-Break.is s.2 in
-    items_done s.0 (sees l.start l.end k.lexed.token) k.seen (unmarked k.lexed close_bracket m) c.loop-end.invariant.0 a c.loop-end.invariant.1 s.1 q.0 q.1 q.2
+    items_done s.0 (sees l.start l.end k.lexed.token) k.seen e c.loop-end.invariant.0 a c.loop-end.invariant.1 s.1 q.0 q.1 q.2
 
 pub list-returns-in_err-end : goal.list-returns-in_err-end
 list-returns-in_err-end g t c i name o =
@@ -108,11 +102,9 @@ pub members-returns-then-eq : goal.members-returns-then-eq
 members-returns-then-eq g t c =
     let k = c.in_ok-first.ensures in
     let l = c.in_ok-first.first in
-    let e = c.eq.ensures in
-    let y = c.if-eq.true in
-    let m : view_of l.token ≡ v_mark close_brace = search rules in
-    members_none _ _ (subst (λ (x : Lexical). Seen g.W.Written.LANGUAGE c.args.self.text.now c.args.at l.start l.end x) (mark_there k.lexed close_brace m) k.seen)
-    (omega (arith, k.onward c.requires.within, mark_some k.lexed close_brace m)) k.lexed.within
+    let e = sym c.eq.ensures ∙ c.if-eq.true in
+    members_none _ _ (subst (λ (x : Lexical). Seen g.W.Written.LANGUAGE c.args.self.text.now c.args.at l.start l.end x) (marked k.lexed CloseBrace close_brace refl e) k.seen)
+    (omega (arith, k.onward c.requires.within, mark_some k.lexed CloseBrace close_brace refl e)) k.lexed.within
 
 pub members-loop-name-init : goal.members-loop-name-init
 members-loop-name-init g t c = ([], members_start (manner_of g.W.Written.LANGUAGE c.args.self) c.args.self.text.now c.args.levels c.args.at _ c.requires.within, held_none c.args.self.distinct c.args.self.text.now _ _ c.args.base c.requires.none, refl, omega (arith, c.requires.none))
@@ -123,10 +115,8 @@ members-fail : (g : Over) (t : ℕ) (c : members-At-loop-name g t) (f : Fault) �
 members-fail g t c f r =
     let k = c.in_ok-first.ensures in
     let l = c.in_ok-first.first in
-    let e = c.eq.ensures in
-    let y = c.if-eq.false in
-    let m : view_of l.token ≡ v_mark close_brace → ⊥ = search rules in
-    ro_members {v = sees l.start l.end k.lexed.token} k.seen (unmarked k.lexed close_brace m) (c.loop-name.invariant.1.faults f r)
+    let e = unmarked k.lexed CloseBrace close_brace refl (sym c.eq.ensures ∙ c.if-eq.false) in
+    ro_members {v = sees l.start l.end k.lexed.token} k.seen e (c.loop-name.invariant.1.faults f r)
 
 pub members-returns-in_err-name : goal.members-returns-in_err-name
 members-returns-in_err-name g t c =
@@ -177,9 +167,7 @@ pub members-returns-in-Break : goal.members-returns-in-Break
 members-returns-in-Break g t c =
     let k = c.in_ok-first.ensures in
     let l = c.in_ok-first.first in
-    let e = c.eq.ensures in
-    let y = c.if-eq.false in
-    let m : view_of l.token ≡ v_mark close_brace → ⊥ = search rules in
+    let e = unmarked k.lexed CloseBrace close_brace refl (sym c.eq.ensures ∙ c.if-eq.false) in
     let i = c.loop-name.invariant in
     let r = c.in_ok-name.ensures.told i.0 i.2 in
     let T = table_of c.args.self.text.now c.loop-name.nodes in
@@ -189,7 +177,7 @@ members-returns-in-Break g t c =
     let b = member_read {T = T} {U = U} r refl w a in
     let s = c.in_ok-at.ensures close_brace refl in
     let q = subst (λ (x : ControlFlow ℕ ℕ). StepIs g.W.Written.LANGUAGE close_brace c.in_ok-end.end s.0 c.args.self.text.now x) c.in-Break.is s.2 in
-    members_done s.0 (sees l.start l.end k.lexed.token) k.seen (unmarked k.lexed close_brace m) i.1 b (ap (take c.args.base) a.links ∙ r.below ∙ i.3) s.1 q.0 q.1 q.2
+    members_done s.0 (sees l.start l.end k.lexed.token) k.seen e i.1 b (ap (take c.args.base) a.links ∙ r.below ∙ i.3) s.1 q.0 q.1 q.2
 
 pub object-returns-in_err-end : goal.object-returns-in_err-end
 object-returns-in_err-end g t c i name o =

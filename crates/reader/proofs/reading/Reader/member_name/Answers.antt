@@ -1,8 +1,9 @@
-use Rattle.std.proofs.Common.{◌≡◌, ◌≤◌, false, List, [], ◌∷◌, ◌++◌, length, take, vec_items, sym, refl, subst, arith, rules}
+use Rattle.std.proofs.Common.{◌≡◌, ◌≤◌, ◌∙◌, false, List, [], ◌∷◌, ◌++◌, length, take, vec_items, sym, refl, subst, arith}
 use Rattle.std.proofs.Math.Option.{some}
 use Rattle.model.specs.Values.{Name}
+use Rattle.std.proofs.lemmas.Bool.{not-true, not-false}
 use Rattle.std.proofs.lemmas.Result.{err_from_is_err_and}
-use Rattle.text.specs.TokenFound.{view_of, v_mark}
+use Rattle.text.specs.declared.token.Token.TheVariants.{Colon}
 use Rattle.text.specs.TokenGrammar.{colon}
 use Rattle.reader.specs.Tokens.{Sight, Sights, sees, blind}
 use Rattle.reader.specs.Grammar.{name_of}
@@ -70,11 +71,8 @@ pub returns-then-ne-clause-told : goal.returns-then-ne-clause-told
 returns-then-ne-clause-told g c ns h =
     let j = c.in_ok-colon.ensures in
     let l = c.in_ok-colon.colon in
-    let e = c.ne.ensures in
-    let y = c.if-ne.true in
-    let m : view_of l.token ≡ v_mark colon → ⊥ = search rules in
     seen_after g (goal.at.returns-then-ne-clause-told g c).Else-not-branch ns h (sees l.start l.end j.lexed.token) j.seen
-    (colon_lacks _ l.start l.end j.lexed.token (unmarked j.lexed colon m))
+    (colon_lacks _ l.start l.end j.lexed.token (unmarked j.lexed Colon colon refl (not-true _ (sym c.ne.ensures ∙ c.if-ne.true))))
 
 pub returns-clause-told : goal.returns-clause-told
 returns-clause-told g c ns h =
@@ -82,17 +80,15 @@ returns-clause-told g c ns h =
     let j = c.in_ok-colon.ensures in
     let l = c.in_ok-colon.colon in
     let d = (goal.at.returns-clause-told g c).Else-not-branch in
-    let e = c.ne.ensures in
-    let y = c.if-ne.false in
-    let m : view_of l.token ≡ v_mark colon = search rules in
+    let e = not-false _ (sym c.ne.ensures ∙ c.if-ne.false) in
     let r = fresh g d ns h in
     record {
       name = name g d ns h;
-      reads = seen_after g d ns h (sees l.start l.end j.lexed.token) j.seen (colon_there _ l.start l.end j.lexed.token (marked j.lexed colon m));
+      reads = seen_after g d ns h (sees l.start l.end j.lexed.token) j.seen (colon_there _ l.start l.end j.lexed.token (marked j.lexed Colon colon refl e));
       part = (named g (goal.at.returns-clause-told g c).In_ok-name).2;
       held = r.1;
       below = r.2;
       within = r.3;
-      forward = omega (arith, k.onward c.requires.within, k.lexed.ordered, j.onward k.lexed.within, mark_some j.lexed colon m);
+      forward = omega (arith, k.onward c.requires.within, k.lexed.ordered, j.onward k.lexed.within, mark_some j.lexed Colon colon refl e);
       inside = j.lexed.within;
     }

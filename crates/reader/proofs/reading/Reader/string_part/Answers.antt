@@ -1,7 +1,7 @@
 use Rattle.std.proofs.Common.{◌≡◌, ℕ, List, length, Err, vec_items, sym, refl, ap, ◌∙◌, subst}
 use lib.Utf8.{encodes}
 use Rattle.text.specs.declared.fault.Fault.{Fault}
-use Rattle.text.specs.declared.fault.Fault.TheVariants.{BadText, TooDeep, NoSpace, RepeatedName, LongNumber, NoMemory}
+use Rattle.text.specs.declared.fault.Fault.TheVariants.{BadText, NoMemory}
 use Rattle.text.specs.declared.language.Language.{Language}
 use Rattle.text.specs.StringGrammar.{Chars}
 use Rattle.text.specs.StringDecode.{DecodeTold}
@@ -11,10 +11,7 @@ use Rattle.reader.proofs.reading.Reader.string_part.Goals as goal
 only_memory : (language : Language) (raw before after cs : List ℕ) (f : Fault) → Chars language raw cs → DecodeTold language raw before after (Err f) → f ≡ NoMemory
 only_memory language raw before after cs (BadText p) n t = absurd (t.0.refused cs n)
 only_memory language raw before after cs NoMemory n t = refl
-only_memory language raw before after cs (LongNumber p) n t = absurd t
-only_memory language raw before after cs (TooDeep p) n t = absurd t
-only_memory language raw before after cs (NoSpace p) n t = absurd t
-only_memory language raw before after cs (RepeatedName p) n t = absurd t
+only_memory language raw before after cs _ n t = absurd t
 
 pub returns : goal.returns
 returns g c text cs e w =
