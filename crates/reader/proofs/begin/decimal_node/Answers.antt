@@ -1,7 +1,7 @@
-use Rattle.std.proofs.Common.{◌≡◌, ℕ, List, length, Err, vec_items, refl, ap, ◌∙◌}
+use Rattle.std.proofs.Common.{◌≡◌, ℕ, List, length, Some, Err, vec_items, refl, ap, ◌∙◌}
 use Rattle.std.proofs.lemmas.Result.{err_from_is_err_and}
 use Rattle.text.specs.declared.fault.Fault.{Fault}
-use Rattle.text.specs.declared.fault.Fault.TheVariants.{BadText, TooDeep, NoSpace, RepeatedName, LongNumber, NoMemory}
+use Rattle.text.specs.declared.fault.Fault.TheVariants.{LongNumber, NoMemory}
 use Rattle.text.specs.declared.number.NumberKind.TheVariants.{Decimal as DecimalNumber}
 use Rattle.text.specs.NormalForm.{Told}
 use Rattle.text.specs.TokenGrammar.{Numeral}
@@ -16,10 +16,7 @@ use Rattle.reader.proofs.begin.decimal_node.Goals as goal
 only_memory : (ds before after : List ℕ) (k : ℕ) (f : Fault) → Numeral ds DecimalNumber → Told ds before after k (Err f) → f ≡ NoMemory
 only_memory ds before after k (LongNumber p) n t = absurd (not_beyond n t.2)
 only_memory ds before after k NoMemory n t = refl
-only_memory ds before after k (BadText p) n t = absurd t
-only_memory ds before after k (TooDeep p) n t = absurd t
-only_memory ds before after k (NoSpace p) n t = absurd t
-only_memory ds before after k (RepeatedName p) n t = absurd t
+only_memory ds before after k _ n t = absurd t
 
 pub returns-in_err-scale : goal.returns-in_err-scale
 returns-in_err-scale c text =
@@ -38,6 +35,6 @@ returns c text =
     record {
       tree = scalar c.args.start (decimal d);
       leaf = l_decimal a.normal;
-      node = node_for text before after Decimal c.args.start c.args.name c.new.result c.new.result.flag c.in_ok-scale.scale (Pool c.len-from.result c.len.result) (scalar c.args.start (decimal d)) c.new.ensures refl refl
+      node = node_for text before after Decimal c.args.start c.args.name c.new.result c.new.result.flag c.in_ok-scale.scale (Some (Pool c.len-from.result c.len.result)) (scalar c.args.start (decimal d)) c.new.ensures refl refl
           (ap (λ (n : Node). n.flag) c.new.ensures) refl refl q.0 q.1 a.digits a.added;
     }
