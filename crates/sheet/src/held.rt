@@ -2,11 +2,10 @@
 ghost use Rattle.std.specs.Prelude.{◌≡◌, ◌-◌, ◌≤◌, length, drop, replicate, vec_len};
 ghost use Rattle.sheet.specs.Loads.{taken};
 
+pub use record::limits::LONGEST_SHEET as GREATEST_CAPACITY;
 use schema::definition::Schema;
 pub use schema::operation::MOST_VARIABLES;
 use schema::operation::Operation;
-
-pub const GREATEST_CAPACITY: usize = 65536;
 
 // Where the name and the record of a variable stand.
 #[derive(Clone, Copy, Debug)]
