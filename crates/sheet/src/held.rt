@@ -25,9 +25,9 @@ pub struct Contents {
 
 // The names and records of an operation's variables. All memory that it will need is had when it is made.
 #[derive(Drop)]
-pub struct Sheet<'a, 's, 'b, 'o, R> {
+pub struct Sheet<'a, 's, 'o, R> {
     pub(crate) schema: &'a Schema<'s>,
-    pub(crate) operation: &'b Operation<'o>,
+    pub(crate) operation: &'a Operation<'o>,
     pub(crate) rule: R,
     // As many bytes as the capacity, zero past the length.
     pub(crate) bytes: Vec<u8>,
