@@ -17,10 +17,10 @@ use text::language::Language;
 
 // What stays the same throughout a walk.
 #[derive_where(Clone, Copy)]
-pub struct Walk<'w, 'a, 's, 'r, S, R> {
+pub struct Walk<'w, 's, S, R> {
     pub source: &'w S,
-    pub schema: &'a Schema<'s>,
-    pub rule: &'r R,
+    pub schema: &'w Schema<'s>,
+    pub rule: &'w R,
     // The index of the variable whose value is walked.
     pub variable: usize,
     // Whether faults are told at the places of the source; otherwise at 0.
@@ -67,7 +67,7 @@ struct Step<'s> {
     shape: Option<Shape>,
 }
 
-impl<'w, S: Source, R: ScalarRule> Walk<'w, '_, '_, '_, S, R> {
+impl<'w, S: Source, R: ScalarRule> Walk<'w, '_, S, R> {
     fn spot(&self, at: usize) -> Spot {
         let place = if self.placed {
             self.source.place(at)

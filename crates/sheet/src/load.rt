@@ -45,23 +45,23 @@ fn replace(to: &mut [u8], from: &[u8])
 
 // What the variables of a request are walked with.
 #[derive_where(Clone, Copy)]
-struct Request<'a, 's, 'b, 'o, 'r, 'w, S, R> {
-    schema: &'a Schema<'s>,
-    operation: &'b Operation<'o>,
-    rule: &'r R,
+struct Request<'w, 's, 'o, S, R> {
+    schema: &'w Schema<'s>,
+    operation: &'w Operation<'o>,
+    rule: &'w R,
     source: &'w S,
     // The cursor of the object that holds the values.
     object: usize,
 }
 
-impl<'a, 's, 'r, S: Source, R: ScalarRule> Request<'a, 's, '_, '_, 'r, '_, S, R> {
+impl<'s, S: Source, R: ScalarRule> Request<'_, 's, '_, S, R> {
     // The walk of the variable's value in a source.
     fn walk_in<'v, T: Source>(
-        &self,
+        &'v self,
         source: &'v T,
         variable: usize,
         placed: bool,
-    ) -> Walk<'v, 'a, 's, 'r, T, R> {
+    ) -> Walk<'v, 's, T, R> {
         Walk {
             source,
             schema: self.schema,
@@ -140,15 +140,15 @@ impl<'a, 's, 'r, S: Source, R: ScalarRule> Request<'a, 's, '_, '_, 'r, '_, S, R>
     }
 }
 
-impl<'a, 's, 'b, 'o, R: ScalarRule> Sheet<'a, 's, 'b, 'o, R> {
+impl<'a, 's, 'o, R: ScalarRule> Sheet<'a, 's, 'o, R> {
     // An empty sheet that can hold as many bytes as the capacity says.
     pub fn new(
         heap: Global,
         schema: &'a Schema<'s>,
-        operation: &'b Operation<'o>,
+        operation: &'a Operation<'o>,
         rule: R,
         capacity: usize,
-    ) -> Result<Sheet<'a, 's, 'b, 'o, R>, RequestFault>
+    ) -> Result<Sheet<'a, 's, 'o, R>, RequestFault>
     where
         R: Drop,
         ensures made { IfOk result (λ s. (capacity ≤ 65536) × (vec_len s.bytes ≡ capacity) × (s.contents ≡ None)) }

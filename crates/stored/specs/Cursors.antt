@@ -101,8 +101,8 @@ TargetTold at frame None = (q : RecordKind) → number_of q ≢ frame.kind
 TargetTold at frame (Some h) = OfFrame at frame h
 
 -- the kind of a raw value, by the number of a record's
-abbrev pub kind_for_lem : ℕ → Kind
-kind_for_lem k = cond (k == 2) Boolean (cond (k == 3) Whole (cond (k == 4) Decimal (cond (k == 5) String (cond (k == 6) ListKind (cond (k == 7) Object Null)))))
+abbrev pub kind_numbered : ℕ → Kind
+kind_numbered k = cond (k == 2) Boolean (cond (k == 3) Whole (cond (k == 4) Decimal (cond (k == 5) String (cond (k == 6) ListKind (cond (k == 7) Object Null)))))
 
 -- P of every raw value that a record within the limits shows, by its kind and body
 abbrev pub OfRecord : (Raw → Type 0) → ℕ → List ℕ → Type 0

@@ -6,7 +6,7 @@ ghost use Rattle.model.specs.Coercion.{member as member_of};
 ghost use Rattle.text.specs.declared.language.Language.TheVariants.{Json as JsonLanguage};
 ghost use Rattle.source.specs.Heads.{flag_of, text_of};
 ghost use Rattle.source.specs.Standing.{Found, Scaled};
-ghost use Rattle.stored.specs.Cursors.{Leads, Held, HeldAll, HeldMems, Named, TargetTold, FollowTold, OfRecord, kind_for_lem};
+ghost use Rattle.stored.specs.Cursors.{Leads, Held, HeldAll, HeldMems, Named, TargetTold, FollowTold, OfRecord, kind_numbered};
 ghost use Rattle.stored.specs.Past.{past_at};
 ghost use Rattle.stored.specs.Laws.{StoredTold, ReadsOnce, ReadsBack, AcceptsBack};
 ghost use Rattle.stored.specs.OneTree.{lawful};
@@ -15,15 +15,13 @@ use crate::header::{Frame, header, valued};
 use crate::reading::Reader;
 use names::names::Names;
 use record::kind::{RecordKind, SCALE};
+use record::limits::LONGEST_SHEET;
 use source::limits::DEEPEST;
 use source::raw::{Kind, Source, Span};
 use std::alloc::Global;
 use text::decimal::Scale;
 use text::fault::Fault;
 use text::language::Language;
-
-// The most bytes of a sheet.
-const LONGEST_SHEET: usize = 65536;
 
 // The bytes of a sheet that were found to be in order.
 #[derive(Clone, Copy)]
@@ -55,7 +53,7 @@ impl<'a> Target<'a> {
     }
 
     fn kind(self) -> Kind
-        ensures { result ≡ kind_for_lem (number_of self.entry.kind) }
+        ensures { result ≡ kind_numbered (number_of self.entry.kind) }
     {
         match self.kind {
             RecordKind::Boolean => Kind::Boolean,
@@ -197,10 +195,9 @@ impl Source for Stored<'_> {
     }
 
     fn name(&self, at: usize) -> &[u8] {
-        match header(self.bytes, at, self.bytes.len()) {
-            Some(frame) => frame.body,
-            None => &[],
-        }
+        header(self.bytes, at, self.bytes.len())
+            .map(|frame| frame.body)
+            .unwrap_or_default()
     }
 }
 

@@ -11,9 +11,9 @@ returns-then-bytes-gt-LONGEST_SHEET c = refused c.args.bytes.now (BadText 0) (al
 pub returns-in_err-members : goal.returns-in_err-members
 returns-in_err-members c =
     let p = err_from_is_err_and c.from_residual.result c.from_residual.ensures.1 in
-    rw (p.1, p.2) (refused_members c.args.bytes.now _ (omega arith) c.in_err-members.ensures.told)
+    rw (p.1, p.2) (refused_members c.args.bytes.now _ (omega arith) c.in_err-members.ensures)
 
 pub returns : goal.returns
 returns c =
-    let m = c.in_ok-members.ensures.told.0 in
+    let m = c.in_ok-members.ensures.0 in
     (refl, accepted c.args.bytes.now m.0 (omega arith) m.1)
