@@ -1,4 +1,4 @@
-// The tokens of GraphQL.
+// The tokens of GraphQL. What their grammar shares with that of JSON stands in `token`.
 ghost use Rattle.std.specs.Prelude.{◌≡◌, ◌+◌, ◌<◌, ◌≤◌, length, IfOk, MatchBool, slice_index};
 ghost use Rattle.text.specs.Places.{Placed, is_end};
 ghost use Rattle.text.specs.StringGrammar.{LineTerminator};
