@@ -51,15 +51,6 @@ pub record SofarItems (m : Manner) (text : List ℕ) (d i here : ℕ) (T U : Tab
       → (ts : Raws) × ReadsItems (Sights m.language text) m.language m.distinct d i (got j ts) × ((V : Table) → Keeps 0 U V → (to : ℕ) → StandsAll V (length U.nodes) to us → StandsAll V (length T.nodes) to ts)
   pub faults : (f : Fault) → ReadsItems (Sights m.language text) m.language m.distinct d here (fails f) → ReadsItems (Sights m.language text) m.language m.distinct d i (fails f)
 
-pub items_start : (m : Manner) (text : List ℕ) (d i : ℕ) (T : Table) → i ≤ length text → SofarItems m text d i i T T
-items_start m text d i T h = record {
-  keeps = keeps_all T;
-  forward = omega arith;
-  within = h;
-  reads = λ j us r. (us, r, λ V k to s. s);
-  faults = λ f r. r;
-}
-
 -- a value that was added stands first among those from its node on
 stands_first : {m : Manner} {text : List ℕ} {d i j : ℕ} {name : Option Part} {T U : Table} {before after : List Link} (a : Added m text d i j name T U before after) (V : Table) → Keeps 0 U V → (to : ℕ) (us : Raws) → StandsAll V (length U.nodes) to us → StandsAll V (length T.nodes) to (cons a.tree us)
 stands_first {T = T} {U = U} a V k to us s =

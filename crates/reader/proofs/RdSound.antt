@@ -10,7 +10,7 @@ use Rattle.text.specs.declared.fault.Fault.{Fault}
 use Rattle.text.specs.declared.fault.Fault.TheVariants.{BadText}
 use Rattle.text.specs.declared.language.Language.{Language}
 use Rattle.text.specs.declared.language.Language.TheVariants.{Json, Graphql}
-use Rattle.text.specs.TokenGrammar.{Mark, bang, dollar, ampersand, open_paren, close_paren, spread, colon, equals, at_sign, open_bracket, close_bracket, open_brace, pipe, close_brace, comma, Lexical, a_mark, a_name, a_number, a_string, the_end}
+use Rattle.text.specs.TokenGrammar.{Mark, bang, dollar, ampersand, open_paren, close_paren, spread, colon, equals, at_sign, open_bracket, close_bracket, open_brace, pipe, close_brace, comma, Lexical, a_mark, a_name, the_end}
 use Rattle.reader.specs.Tokens.{Sight, sees, blind}
 use Rattle.reader.specs.Grammar.{Leaf, l_null, name_of, Separated, Value, g_leaf, g_variable, g_list, g_object, Values, g_nil, g_values, SomeValues, g_last, g_more, Members, g_end, g_members, SomeMembers, g_last_member, g_more_members, Member, g_member, Text}
 use Rattle.reader.specs.Reading.{Out, got, fails, mark_number, is_mark, done, again, halts, turn, as_list, as_object, ahead, ahead_member, as_variable, colon_after, repeats, NameAt, na_blind, na_none, na_long, na_repeated, na_name, Reads, r_blind, r_none, r_deep, r_leaf, r_variable, r_list, r_object, ReadsList, rl_nil, rl_items, ReadsItems, ri_fails, ri_halts, ri_last, ri_more, ReadsObject, ro_end, ro_members, ReadsMembers, rm_unnamed, rm_fails, rm_halts, rm_last, rm_more, after_all, ReadsAll, all_fails, all_read, Unrepeated, Bounded, BoundedAll, BoundedMems}
@@ -260,12 +260,8 @@ module _ (N : ℕ → Sight → Type 0) (T : ℕ → ℕ → ℕ → Lexical →
     sound_members r k w = comes_members r k w
 
     all_sound : (j : ℕ) (t : Raw) (v : Sight) (o : Out Raw) → Value T language 0 j t × Bounded distinct 0 t → N j v → after_all t v ≡ o → SoundAll T language distinct o
-    all_sound j t (sees s e (a_mark m)) o a n z = subst (SoundAll T language distinct) z tt
-    all_sound j t (sees s e (a_name w)) o a n z = subst (SoundAll T language distinct) z tt
-    all_sound j t (sees s e (a_number k ds)) o a n z = subst (SoundAll T language distinct) z tt
-    all_sound j t (sees s e (a_string cs)) o a n z = subst (SoundAll T language distinct) z tt
     all_sound j t (sees s e the_end) o a n z = subst (SoundAll T language distinct) z (record { to = j; from = s; last = e; value = a.0; ends = seen j s e the_end n }, a.1)
-    all_sound j t (blind f) o a n z = subst (SoundAll T language distinct) z tt
+    all_sound j t _ o a n z = subst (SoundAll T language distinct) z tt
 
     comes_all : {d : ℕ} {o : Out Raw} → ReadsAll N language distinct d o → d ≡ 33 → SoundAll T language distinct o
     comes_all (all_fails r) h = tt
