@@ -9,7 +9,7 @@ use Rattle.names.specs.declared.names.Link.{Link}
 use Rattle.names.specs.declared.part.Part.{Part}
 use Rattle.names.specs.Parts.{PartFits, bytes_of}
 use Rattle.source.specs.declared.nodes.Node.{Node}
-use Rattle.source.specs.Nodes.{node_at}
+use Rattle.source.specs.Nodes.{node_at, sized}
 use Rattle.source.specs.Table.{Table, Says, Named, Stands, StandsAll, StandsMems, Keeps, past_of}
 use Rattle.source.proofs.Keeping.{keeps_all, keeps_on, says_kept, stands_kept, all_kept, mems_kept, past_kept, named_kept, fits_kept, bytes_kept}
 use Rattle.source.specs.OneTree.{head_of}
@@ -97,7 +97,7 @@ list_closed {n = n} {T} {U} {V} {W} room o p a c =
     let big : length T.nodes < length V.nodes = omega (arith, g, a.keeps.grows) in
     let tv = keeps_on (pushed_keeps p) a.keeps in
     let node : node_at V.nodes (length T.nodes) ≡ n = a.keeps.nodes (length T.nodes) (omega arith) (omega (arith, g)) ∙ pushed_node p in
-    let at-w = closed_here c big ∙ ap (λ (k : Node). record { kind = k.kind; place = k.place; flag = k.flag; scale = k.scale; name = k.name; text = k.text; size = length V.nodes - length T.nodes }) node in
+    let at-w = closed_here c big ∙ ap (λ (k : Node). sized k (length V.nodes - length T.nodes)) node in
     let size = ap (λ (k : Node). k.size) at-w in
     let past : past_of W.nodes (length T.nodes) ≡ length V.nodes = omega (arith, size) in
     let says = says_sized (list o.start a.trees) (length V.nodes - length T.nodes) (says_kept (closed_keeps c big) (says_kept tv o.says)) refl o.place refl refl refl refl in
@@ -215,7 +215,7 @@ object_closed {base = base} {n = n} {T} {U} {V} {W} {before} {after} {last} room
     let big : length T.nodes < length V.nodes = omega (arith, g, a.keeps.grows) in
     let tv = keeps_on (pushed_keeps p) a.keeps in
     let node : node_at V.nodes (length T.nodes) ≡ n = a.keeps.nodes (length T.nodes) (omega arith) (omega (arith, g)) ∙ pushed_node p in
-    let at-w = closed_here c big ∙ ap (λ (k : Node). record { kind = k.kind; place = k.place; flag = k.flag; scale = k.scale; name = k.name; text = k.text; size = length V.nodes - length T.nodes }) node in
+    let at-w = closed_here c big ∙ ap (λ (k : Node). sized k (length V.nodes - length T.nodes)) node in
     let size = ap (λ (k : Node). k.size) at-w in
     let past : past_of W.nodes (length T.nodes) ≡ length V.nodes = omega (arith, size) in
     let says = says_sized (object o.start a.trees) (length V.nodes - length T.nodes) (says_kept (closed_keeps c big) (says_kept tv o.says)) refl o.place refl refl refl refl in

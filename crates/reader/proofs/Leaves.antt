@@ -20,7 +20,8 @@ use Rattle.names.specs.declared.part.Part.{Part}
 use Rattle.names.specs.declared.part.Part.TheVariants.{Pool}
 use Rattle.names.specs.Parts.{PartFits, MayFit, bytes_of, bytes_if_any}
 use Rattle.source.specs.declared.nodes.Node.{Node}
-use Rattle.source.specs.declared.raw.Kind.{Kind}
+use Rattle.source.specs.declared.nodes.Content.{Content}
+use Rattle.source.specs.Contents.{kind_in, flag_in, negative_in, exponent_in, text_in}
 use Rattle.source.specs.Heads.{kind_of, flag_of, negative_of, exponent_of, text_of}
 use Rattle.source.specs.Nodes.{headed}
 use Rattle.reader.specs.Told.{LookTold, NodeFor}
@@ -43,24 +44,20 @@ not_beyond n (great h g) =
     ⊎_elim (λ e. omega (arith, ints, b, w.power, e, n.small)) (λ e. omega (arith, ints, b, w.power, e, n.small)) w.sizes
 
 -- the node of a value with nothing below it
-pub node_for : (text before after : List ℕ) (k : Kind) (s : ℕ) (name : Option Part) (m : Node) (f : Bool) (sc : Scale) (p : Option Part) (t : Raw) → m ≡ headed k s name → k ≡ kind_of t → s ≡ place_of t → f ≡ flag_of t → sc.negative ≡ negative_of t → sc.exponent ≡ exponent_of t
-    → MayFit text after p → bytes_if_any text after p ≡ text_of t → (added : List ℕ) → after ≡ before ++ added
-    → NodeFor text before after name t (record { kind = m.kind; place = m.place; flag = f; scale = sc; name = m.name; text = p; size = m.size })
-node_for text before after k s name m f sc p t e ek es ef en ex fits is added grown = record {
-  says = record { kind = ap (λ (n : Node). n.kind) e ∙ ek; place = ap (λ (n : Node). n.place) e ∙ es; flag = ef; negative = en; exponent = ex; fits = fits; text = is };
-  named = ap (λ (n : Node). n.name) e;
-  size = ap (λ (n : Node). n.size) e;
+pub node_for : (text before after : List ℕ) (c : Content) (s : ℕ) (name : Option Part) (m : Node) (t : Raw) → m ≡ headed c s name → kind_in c ≡ kind_of t → s ≡ place_of t → flag_in c ≡ flag_of t → negative_in c ≡ negative_of t → exponent_in c ≡ exponent_of t
+    → MayFit text after (text_in c) → bytes_if_any text after (text_in c) ≡ text_of t → (added : List ℕ) → after ≡ before ++ added → NodeFor text before after name t m
+node_for text before after c s name m t e ek es ef en ex fits is added grown = subst (NodeFor text before after name t) (sym e) (record {
+  says = record { kind = ek; place = es; flag = ef; negative = en; exponent = ex; fits = fits; text = is };
+  named = refl;
+  size = refl;
   more = added;
   grown = grown;
-}
+})
 
--- the same, of a value without a text
-pub bare_node : (text pool : List ℕ) (k : Kind) (s : ℕ) (name : Option Part) (m : Node) (f : Bool) (t : Raw) → m ≡ headed k s name → k ≡ kind_of t → s ≡ place_of t → f ≡ flag_of t → false ≡ negative_of t → pos 0 ≡ exponent_of t → [] ≡ text_of t
-    → NodeFor text pool pool name t (record { kind = m.kind; place = m.place; flag = f; scale = m.scale; name = m.name; text = m.text; size = m.size })
-bare_node text pool k s name m f t e ek es ef en ex is =
-    let p : m.text ≡ None = ap (λ (n : Node). n.text) e in
-    node_for text pool pool k s name m f m.scale m.text t e ek es ef (ap (λ (n : Node). n.scale.negative) e ∙ en) (ap (λ (n : Node). n.scale.exponent) e ∙ ex)
-    (subst (λ (q : Option Part). MayFit text pool q) (sym p) tt) (ap (λ (q : Option Part). bytes_if_any text pool q) p ∙ is) [] (sym (append-nil pool))
+-- the same, where the pool stays
+pub bare_node : (text pool : List ℕ) (c : Content) (s : ℕ) (name : Option Part) (m : Node) (t : Raw) → m ≡ headed c s name → kind_in c ≡ kind_of t → s ≡ place_of t → flag_in c ≡ flag_of t → negative_in c ≡ negative_of t → exponent_in c ≡ exponent_of t
+    → MayFit text pool (text_in c) → bytes_if_any text pool (text_in c) ≡ text_of t → NodeFor text pool pool name t m
+bare_node text pool c s name m t e ek es ef en ex fits is = node_for text pool pool c s name m t e ek es ef en ex fits is [] (sym (append-nil pool))
 
 -- what was added to a pool is a part of it
 pub pool_part : (text before added after : List ℕ) (i j : ℕ) → after ≡ before ++ added → i ≡ length before → j ≡ length after → PartFits text after (Pool i j) × (bytes_of text after (Pool i j) ≡ added)

@@ -16,6 +16,9 @@ use Rattle.text.specs.TokenFound.{View, v_mark, v_text, v_end, view_of, Holds}
 use Rattle.names.specs.declared.part.Part.{Part}
 use Rattle.source.specs.declared.nodes.Node.{Node}
 use Rattle.source.specs.declared.raw.Kind.TheVariants.{Variable, List as ListKind, Object}
+use Rattle.source.specs.declared.nodes.Content.{Content}
+use Rattle.source.specs.declared.nodes.Content.TheVariants.{List as ListContent, Object as ObjectContent, Variable as VariableContent}
+use Rattle.source.specs.Contents.{kind_in}
 use Rattle.source.specs.Heads.{kind_of}
 use Rattle.source.specs.Table.{Table, Says}
 use Rattle.reader.specs.Manner.{Manner}
@@ -108,11 +111,24 @@ opens_variable starts_list e = cc
 opens_variable starts_object e = cc
 opens_variable starts_variable e = (refl, refl)
 
-pub is_leaf : {s : ℕ} {x : Lexical} {t : Raw} → Starts s x t → (kind_of t ≡ ListKind → ⊥) → (kind_of t ≡ Object → ⊥) → (kind_of t ≡ Variable → ⊥) → Leaf s x t
-is_leaf (starts_leaf l) a b c = l
-is_leaf starts_list a b c = absurd (a refl)
-is_leaf starts_object a b c = absurd (b refl)
-is_leaf starts_variable a b c = absurd (c refl)
+-- and by its content
+list_content : (c : Content) → kind_in c ≡ ListKind → c ≡ ListContent
+list_content ListContent e = refl
+list_content _ e = cc
+
+object_content : (c : Content) → kind_in c ≡ Object → c ≡ ObjectContent
+object_content ObjectContent e = refl
+object_content _ e = cc
+
+variable_content : (c : Content) → kind_in c ≡ Variable → (p : Part) × (c ≡ VariableContent p)
+variable_content (VariableContent p) e = (p, refl)
+variable_content _ e = cc
+
+pub is_leaf : {s : ℕ} {x : Lexical} {t : Raw} (c : Content) → Starts s x t → kind_in c ≡ kind_of t → (c ≡ ListContent → ⊥) → (c ≡ ObjectContent → ⊥) → ((p : Part) → c ≡ VariableContent p → ⊥) → Leaf s x t
+is_leaf c (starts_leaf l) e f g h = l
+is_leaf c starts_list e f g h = absurd (f (list_content c e))
+is_leaf c starts_object e f g h = absurd (g (object_content c e))
+is_leaf c starts_variable e f g h = let v = variable_content c e in absurd (h v.0 v.1)
 
 -- where a value begins, it goes on
 pub begun_goes : {language : Language} {text : List ℕ} {at : ℕ} {before after : List ℕ} {name : Option Part} {l : Lexeme} {n : Node} → at ≤ length text → Begun language text at before after name l n → at < l.end

@@ -10,8 +10,7 @@ ghost use Rattle.reader.specs.Told.{LookTold, LeafNode, LeafTold, PartTold, Lexe
 
 use crate::reading::Reader;
 use names::part::Part;
-use source::nodes::Node;
-use source::raw::Kind;
+use source::nodes::{Content, Node};
 use source::value::Written;
 use text::fault::Fault;
 use text::language::Language;
@@ -24,21 +23,15 @@ fn word_node(word: &[u8], start: usize, end: usize, name: Option<Part>) -> Node
     ensures { (text pool : List ℕ) → start ≤ end → end ≤ length text → word.now ≡ cut_out text start end → LeafNode text pool pool name start (a_name word.now) result }
 {
     if word == b"null".as_slice() {
-        return Node::new(Kind::Null, start, name);
+        return Node::new(Content::Null, start, name);
     }
     if word == b"true".as_slice() {
-        return Node {
-            flag: true,
-            ..Node::new(Kind::Boolean, start, name)
-        };
+        return Node::new(Content::Boolean(true), start, name);
     }
     if word == b"false".as_slice() {
-        return Node::new(Kind::Boolean, start, name);
+        return Node::new(Content::Boolean(false), start, name);
     }
-    Node {
-        text: Some(Part::Text { start, end }),
-        ..Node::new(Kind::Enum, start, name)
-    }
+    Node::new(Content::Enum(Part::Text { start, end }), start, name)
 }
 
 // The node of a whole number from `start` to `end`, whose normal form ends where it ends.
@@ -46,10 +39,7 @@ fn whole_node(spelled: &[u8], start: usize, end: usize, name: Option<Part>) -> N
     ensures { (text pool : List ℕ) → start ≤ end → end ≤ length text → spelled.now ≡ cut_out text start end → LeafNode text pool pool name start (a_number Whole spelled.now) result }
 {
     let from = end.saturating_sub(decimal::whole(spelled).len());
-    Node {
-        text: Some(Part::Text { start: from, end }),
-        ..Node::new(Kind::Whole, start, name)
-    }
+    Node::new(Content::Whole(Part::Text { start: from, end }), start, name)
 }
 
 // The node of a decimal, whose digits in normal form are added to the pool.
@@ -64,14 +54,11 @@ fn decimal_node(
 {
     let from = pool.len();
     let scale = decimal::normal(spelled, pool)?;
-    Ok(Node {
-        scale,
-        text: Some(Part::Pool {
-            start: from,
-            end: pool.len(),
-        }),
-        ..Node::new(Kind::Decimal, start, name)
-    })
+    let digits = Part::Pool {
+        start: from,
+        end: pool.len(),
+    };
+    Ok(Node::new(Content::Decimal { scale, digits }, start, name))
 }
 
 impl<'a, W: Written> Reader<'a, W> {
@@ -123,9 +110,14 @@ impl<'a, W: Written> Reader<'a, W> {
     {
         let Lexeme { token, start, end } = lexeme;
         match token {
-            Token::OpenBracket => Ok(Node::new(Kind::List, start, name)),
-            Token::OpenBrace => Ok(Node::new(Kind::Object, start, name)),
-            Token::Dollar => Ok(Node::new(Kind::Variable, start, name)),
+            Token::OpenBracket => Ok(Node::new(Content::List, start, name)),
+            Token::OpenBrace => Ok(Node::new(Content::Object, start, name)),
+            // Its name is read once the depth is judged: nothing after the `$` till then.
+            Token::Dollar => Ok(Node::new(
+                Content::Variable(Part::Text { start: end, end }),
+                start,
+                name,
+            )),
             Token::Name(word) => Ok(word_node(word, start, end, name)),
             Token::Number(kind, spelled) => match kind {
                 NumberKind::Whole => Ok(whole_node(spelled, start, end, name)),
@@ -133,10 +125,7 @@ impl<'a, W: Written> Reader<'a, W> {
             },
             Token::Text { raw, plain } => {
                 let text = self.string_part(lexeme, raw, plain, pool)?;
-                Ok(Node {
-                    text: Some(text),
-                    ..Node::new(Kind::String, start, name)
-                })
+                Ok(Node::new(Content::String(text), start, name))
             }
             _ => Err(Fault::BadText(start)),
         }

@@ -9,8 +9,7 @@ use crate::reading::Reader;
 use names::names::Names;
 use names::part::{Holder, Part};
 use source::limits::LONGEST_NAME;
-use source::nodes::{Node, Nodes};
-use source::raw::Kind;
+use source::nodes::{Content, Node, Nodes};
 use source::value::Written;
 use std::ops::ControlFlow;
 use text::fault::Fault;
@@ -108,7 +107,7 @@ impl<W: Written> Reader<'_, W> {
             return Err(Fault::BadText(lexeme.start));
         };
         nodes.add(Node {
-            text: Some(Part::Text {
+            content: Content::Variable(Part::Text {
                 start: lexeme.start,
                 end: lexeme.end,
             }),
@@ -133,10 +132,10 @@ impl<W: Written> Reader<'_, W> {
         if levels == 0 {
             return Err(Fault::TooDeep(lexeme.start));
         }
-        match node.kind {
-            Kind::List => self.list(lexeme.end, levels, node, nodes),
-            Kind::Object => self.object(lexeme.end, levels, node, nodes),
-            Kind::Variable => self.variable(lexeme.end, node, nodes),
+        match node.content {
+            Content::List => self.list(lexeme.end, levels, node, nodes),
+            Content::Object => self.object(lexeme.end, levels, node, nodes),
+            Content::Variable(_) => self.variable(lexeme.end, node, nodes),
             _ => {
                 nodes.add(node)?;
                 Ok(lexeme.end)

@@ -5,6 +5,7 @@ use Rattle.names.specs.declared.part.Part.{Part}
 use Rattle.names.specs.Parts.{PartFits, MayFit, bytes_of, bytes_if_any}
 use Rattle.names.proofs.Growth.{fits_pool, bytes_pool}
 use Rattle.source.specs.declared.nodes.Node.{Node}
+use Rattle.source.specs.Contents.{text_in}
 use Rattle.source.specs.Nodes.{node_at}
 use Rattle.source.specs.Table.{Table, Says, Head, Named, Stands, StandsAll, StandsMems, Keeps, past_of}
 use Rattle.source.specs.OneTree.{head_of}
@@ -46,8 +47,8 @@ says_kept {n = n} a s = record {
   flag = s.flag;
   negative = s.negative;
   exponent = s.exponent;
-  fits = may_fit_kept a n.text s.fits;
-  text = any_bytes_kept a n.text s.fits ∙ s.text;
+  fits = may_fit_kept a (text_in n.content) s.fits;
+  text = any_bytes_kept a (text_in n.content) s.fits ∙ s.text;
 }
 
 pub past_kept : {k : ℕ} {T U : Table} → Keeps k T U → (at : ℕ) → k ≤ at → at < length T.nodes → past_of U.nodes at ≡ past_of T.nodes at

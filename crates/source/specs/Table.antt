@@ -9,6 +9,7 @@ use Rattle.source.specs.declared.nodes.Node.{Node}
 use Rattle.source.specs.declared.nodes.Nodes.{Nodes}
 use Rattle.source.specs.declared.tree.Tree.{Tree}
 use Rattle.source.specs.Nodes.{node_at}
+use Rattle.source.specs.Contents.{kind_in, flag_in, text_in, negative_in, exponent_in}
 use Rattle.source.specs.Heads.{kind_of, flag_of, text_of, negative_of, exponent_of}
 
 -- the cursor past a node and all below it
@@ -29,13 +30,13 @@ tree_table t = table_of t.text.now t.nodes
 
 -- the node says what the value says of itself
 pub record Says (T : Table) (n : Node) (t : Raw) : Type 0 where
-  pub kind : n.kind ≡ kind_of t
+  pub kind : kind_in n.content ≡ kind_of t
   pub place : n.place ≡ place_of t
-  pub flag : n.flag ≡ flag_of t
-  pub negative : n.scale.negative ≡ negative_of t
-  pub exponent : n.scale.exponent ≡ exponent_of t
-  pub fits : MayFit T.text T.pool n.text
-  pub text : bytes_if_any T.text T.pool n.text ≡ text_of t
+  pub flag : flag_in n.content ≡ flag_of t
+  pub negative : negative_in n.content ≡ negative_of t
+  pub exponent : exponent_in n.content ≡ exponent_of t
+  pub fits : MayFit T.text T.pool (text_in n.content)
+  pub text : bytes_if_any T.text T.pool (text_in n.content) ≡ text_of t
 
 -- the node at the cursor says what the value says, and what is below it ends within the table
 pub record Head (T : Table) (at : ℕ) (t : Raw) : Type 0 where

@@ -1,5 +1,6 @@
 // A table of nodes in preorder, and the bytes that no text holds as they are.
 ghost use Rattle.std.specs.Prelude.{◌≡◌, []};
+ghost use Rattle.source.specs.Contents.{kind_in, text_in};
 ghost use Rattle.source.specs.Nodes.{node_at, headed, closed, AddTold};
 
 use crate::raw::Kind;
@@ -8,19 +9,63 @@ pub use names::part::Part;
 use std::alloc::{AllocError, Global};
 use text::decimal::Scale;
 
+// What a value says of itself; what is inside a list or an object stands in the nodes after it.
+#[derive(Clone, Copy, Debug)]
+pub enum Content {
+    Null,
+    Boolean(bool),
+    // In normal form.
+    Whole(Part),
+    Decimal { scale: Scale, digits: Part },
+    String(Part),
+    Enum(Part),
+    // Its name.
+    Variable(Part),
+    List,
+    Object,
+}
+
+impl Content {
+    pub fn kind(self) -> Kind
+        ensures { result ≡ kind_in self }
+    {
+        match self {
+            Content::Null => Kind::Null,
+            Content::Boolean(_) => Kind::Boolean,
+            Content::Whole(_) => Kind::Whole,
+            Content::Decimal { .. } => Kind::Decimal,
+            Content::String(_) => Kind::String,
+            Content::Enum(_) => Kind::Enum,
+            Content::Variable(_) => Kind::Variable,
+            Content::List => Kind::List,
+            Content::Object => Kind::Object,
+        }
+    }
+
+    // Where the bytes stand that the value writes, if it writes any.
+    pub(crate) fn text(self) -> Option<Part>
+        ensures { result ≡ text_in self }
+    {
+        match self {
+            Content::Whole(part)
+            | Content::Decimal { digits: part, .. }
+            | Content::String(part)
+            | Content::Enum(part)
+            | Content::Variable(part) => Some(part),
+            Content::Null | Content::Boolean(_) | Content::List | Content::Object => None,
+        }
+    }
+}
+
 // A value; those inside it follow it in the table.
-// No enum: `Source` asks for kind, flag, scale and text apart, of any node. A struct keeps the order of its fields: small ones first.
 #[derive(Clone, Copy, Debug)]
 pub struct Node {
-    pub kind: Kind,
-    pub flag: bool,
-    pub scale: Scale,
+    pub content: Content,
     pub place: usize,
     // Counts the node and all below it.
     pub size: usize,
     // Of a member's value.
     pub name: Option<Part>,
-    pub text: Option<Part>,
 }
 
 // One table for a text: no value costs an allocation.
@@ -35,25 +80,21 @@ pub struct Nodes {
 impl Node {
     // Stands for a node that is not there.
     pub const NOTHING: Node = Node {
-        kind: Kind::Null,
-        flag: false,
-        scale: Scale::ZERO,
+        content: Content::Null,
         place: 0,
         size: 0,
         name: None,
-        text: None,
     };
 
     // A node with nothing below it yet.
-    pub fn new(kind: Kind, place: usize, name: Option<Part>) -> Node
-        ensures { result ≡ headed kind place name }
+    pub fn new(content: Content, place: usize, name: Option<Part>) -> Node
+        ensures { result ≡ headed content place name }
     {
         Node {
-            kind,
+            content,
             place,
-            name,
             size: 1,
-            ..Node::NOTHING
+            name,
         }
     }
 }

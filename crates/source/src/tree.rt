@@ -1,6 +1,6 @@
 // A tree of raw values over the text that it was read from.
-use crate::nodes::Nodes;
-use crate::raw::{Kind, Source};
+use crate::nodes::{Content, Nodes};
+use crate::raw::Source;
 use crate::value::Literal;
 use names::part::Part;
 
@@ -18,7 +18,7 @@ impl<'a> Tree<'a> {
         let from = self.nodes.list.get(at..).unwrap_or_default();
         from.iter()
             .take(size)
-            .any(|node| node.kind == Kind::Variable)
+            .any(|node| matches!(node.content, Content::Variable(_)))
     }
 
     // The place of the object's first member whose name an earlier member has.
@@ -32,7 +32,7 @@ impl<'a> Tree<'a> {
     // The least place of a member's name that an earlier member of the same object has.
     pub fn repeated_member(&self) -> Option<usize> {
         (0..self.nodes.list.len())
-            .filter(|at| self.nodes.get(*at).kind == Kind::Object)
+            .filter(|at| matches!(self.nodes.get(*at).content, Content::Object))
             .filter_map(|object| self.repeated_in(object))
             .min()
     }

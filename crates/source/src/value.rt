@@ -7,7 +7,7 @@ ghost use Rattle.source.specs.Nodes.{node_at};
 ghost use Rattle.source.specs.Table.{past_of, tree_table, Held, HeldAll, HeldMems, Named};
 ghost use Rattle.source.specs.OneTree.{lawful};
 
-use crate::nodes::Node;
+use crate::nodes::{Content, Node};
 use crate::raw::{Kind, Source, Span};
 use crate::tree::Tree;
 use names::part::{Holder, Part};
@@ -115,7 +115,7 @@ impl<W: Written> Source for Value<'_, '_, W> {
     }
 
     fn kind(&self, at: usize) -> Kind {
-        self.node(at).kind
+        self.node(at).content.kind()
     }
 
     fn place(&self, at: usize) -> usize {
@@ -123,22 +123,25 @@ impl<W: Written> Source for Value<'_, '_, W> {
     }
 
     fn boolean(&self, at: usize) -> bool {
-        self.node(at).flag
+        matches!(self.node(at).content, Content::Boolean(true))
     }
 
     fn text(&self, at: usize) -> &[u8] {
-        self.bytes(self.node(at).text)
+        self.bytes(self.node(at).content.text())
     }
 
     fn scale(&self, at: usize) -> Scale {
-        self.node(at).scale
+        match self.node(at).content {
+            Content::Decimal { scale, .. } => scale,
+            _ => Scale::ZERO,
+        }
     }
 
     fn inside(&self, at: usize) -> Span {
         let len = self.tree.nodes.list.len();
         let node = self.node(at);
-        match node.kind {
-            Kind::List | Kind::Object if at < len && node.size <= len - at => Span {
+        match node.content {
+            Content::List | Content::Object if at < len && node.size <= len - at => Span {
                 from: at + 1,
                 to: at + node.size,
             },

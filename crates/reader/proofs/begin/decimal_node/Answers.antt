@@ -1,12 +1,11 @@
-use Rattle.std.proofs.Common.{◌≡◌, ℕ, List, length, Some, Err, vec_items, refl, ap, ◌∙◌}
+use Rattle.std.proofs.Common.{◌≡◌, ℕ, List, length, Err, vec_items, refl, ◌∙◌}
 use Rattle.std.proofs.lemmas.Result.{err_from_is_err_and}
 use Rattle.text.specs.declared.fault.Fault.{Fault}
 use Rattle.text.specs.declared.fault.Fault.TheVariants.{LongNumber, NoMemory}
 use Rattle.text.specs.declared.number.NumberKind.TheVariants.{Decimal as DecimalNumber}
 use Rattle.text.specs.NormalForm.{Told}
 use Rattle.text.specs.TokenGrammar.{Numeral}
-use Rattle.source.specs.declared.nodes.Node.{Node}
-use Rattle.source.specs.declared.raw.Kind.TheVariants.{Decimal}
+use Rattle.source.specs.declared.nodes.Content.TheVariants.{Decimal}
 use Rattle.model.specs.Values.{Dec, scalar, decimal}
 use Rattle.reader.specs.Grammar.{l_decimal}
 use Rattle.reader.proofs.Leaves.{node_for, pool_part, not_beyond}
@@ -35,6 +34,6 @@ returns c text =
     record {
       tree = scalar c.args.start (decimal d);
       leaf = l_decimal a.normal;
-      node = node_for text before after Decimal c.args.start c.args.name c.new.result c.new.result.flag c.in_ok-scale.scale (Some (Pool c.len-from.result c.len.result)) (scalar c.args.start (decimal d)) c.new.ensures refl refl
-          (ap (λ (n : Node). n.flag) c.new.ensures) refl refl q.0 q.1 a.digits a.added;
+      node = node_for text before after (Decimal c.in_ok-scale.scale (Pool c.len-from.result c.len.result)) c.args.start c.args.name c.new.result (scalar c.args.start (decimal d)) c.new.ensures refl refl refl refl refl
+          q.0 q.1 a.digits a.added;
     }

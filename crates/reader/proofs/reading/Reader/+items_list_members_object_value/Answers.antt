@@ -3,6 +3,7 @@ use Rattle.std.proofs.lemmas.Result.{err_from_is_err_and}
 use Rattle.model.specs.Values.{list, object, variable, nil, end, place_of}
 use Rattle.names.specs.declared.names.Link.{Link}
 use Rattle.names.specs.declared.names.Names.{Names}
+use Rattle.source.specs.Contents.{kind_in}
 use Rattle.source.specs.Nodes.{closed}
 use Rattle.source.specs.Table.{Table, Says, table_of}
 use Rattle.text.specs.declared.fault.Fault.{Fault}
@@ -220,7 +221,7 @@ value-returns-in-List g t c =
     let b = c.in_ok-lexeme.ensures in
     let d = (goal.at.value-returns-in-List g t c).In_ok-lexeme in
     let U = begun g t d in
-    let o = opens_list b.starts.starts (sym b.starts.node.says.kind ∙ c.in-List.is) in
+    let o = opens_list b.starts.starts (sym b.starts.node.says.kind ∙ ap kind_in c.in-List.is) in
     begun_told g t d _ _ _ c.list.result
     (c.list.ensures c.args.at c.args.name (opened_as (manner_of g.W.Written.LANGUAGE c.args.self) U (a_mark open_bracket) (list c.in_ok-lexeme.lexeme.start nil) (list c.in_ok-lexeme.node.place nil) refl refl c.requires b o.0 o.1 refl (λ k e. ap (λ n. (list n nil)) (sym (b.starts.node.says.place ∙ ap place_of o.1)))))
 
@@ -229,7 +230,7 @@ value-returns-in-Object g t c =
     let b = c.in_ok-lexeme.ensures in
     let d = (goal.at.value-returns-in-Object g t c).In_ok-lexeme in
     let U = begun g t d in
-    let o = opens_object b.starts.starts (sym b.starts.node.says.kind ∙ c.in-Object.is) in
+    let o = opens_object b.starts.starts (sym b.starts.node.says.kind ∙ ap kind_in c.in-Object.is) in
     begun_told g t d _ _ _ c.object.result
     (c.object.ensures c.args.at c.args.name (opened_as (manner_of g.W.Written.LANGUAGE c.args.self) U (a_mark open_brace) (object c.in_ok-lexeme.lexeme.start end) (object c.in_ok-lexeme.node.place end) refl refl c.requires b o.0 o.1 refl (λ k e. ap (λ n. (object n end)) (sym (b.starts.node.says.place ∙ ap place_of o.1)))))
 
@@ -238,7 +239,7 @@ value-returns-in-Variable g t c =
     let b = c.in_ok-lexeme.ensures in
     let d = (goal.at.value-returns-in-Variable g t c).In_ok-lexeme in
     let U = begun g t d in
-    let o = opens_variable b.starts.starts (sym b.starts.node.says.kind ∙ c.in-Variable.is) in
+    let o = opens_variable b.starts.starts (sym b.starts.node.says.kind ∙ ap kind_in c.in-Variable.is) in
     begun_told g t d _ _ _ c.variable.result
     (c.variable.ensures c.args.levels (omega arith) c.args.at c.args.name (opened_as (manner_of g.W.Written.LANGUAGE c.args.self) U (a_mark dollar) (variable c.in_ok-lexeme.lexeme.start []) (variable c.in_ok-lexeme.node.place []) refl refl c.requires b o.0 o.1 refl (λ k e. ap (λ n. (variable n [])) (sym (b.starts.node.says.place ∙ ap place_of o.1)))))
 
@@ -248,8 +249,7 @@ value-returns-in_ok-add-in_default g t c =
     let d = (goal.at.value-returns-in_ok-add-in_default g t c).In_ok-lexeme in
     let U = begun g t d in
     let x = c.in_ok-add-in_default.ensures in
-    let k = b.starts.node.says.kind in
-    let f = is_leaf b.starts.starts (λ e. c.in_default.not-List (k ∙ e)) (λ e. c.in_default.not-Object (k ∙ e)) (λ e. c.in_default.not-Variable (k ∙ e)) in
+    let f = is_leaf c.in_ok-lexeme.node.content b.starts.starts b.starts.node.says.kind c.in_default.not-List c.in_default.not-Object c.in_default.not-Variable in
     let p : Pushed U (table_of c.args.self.text.now c.add.new.self) c.in_ok-lexeme.node = record { text = refl; pool = ap vec_items x.pool; nodes = x.told } in
     let s : Says U c.in_ok-lexeme.node b.starts.tree = says_bare {T = bare c.args.self.text.now (vec_items c.begin.new.pool)} {U = U} refl refl b.starts.node.says in
     begun_told g t d _ _ _ (Ok c.in_ok-lexeme.lexeme.end)

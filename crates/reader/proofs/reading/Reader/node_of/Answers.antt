@@ -1,9 +1,9 @@
-use Rattle.std.proofs.Common.{[], drop, Some, refl, ap, ◌∙◌, subst}
+use Rattle.std.proofs.Common.{◌≡◌, ◌-◌, [], take, drop, refl, ap, ◌∙◌, subst, arith}
 use lib.Utf8.{encodes}
 use Rattle.std.proofs.lemmas.Result.{err_from_is_err_and}
 use Rattle.model.specs.Values.{list, object, variable, scalar, string, nil, end}
-use Rattle.source.specs.declared.nodes.Node.{Node}
-use Rattle.source.specs.declared.raw.Kind.TheVariants.{List as ListKind, Object, Variable, String}
+use Rattle.source.specs.declared.nodes.Content.TheVariants.{List as ListContent, Object, Variable, String}
+use Rattle.names.specs.declared.part.Part.TheVariants.{Text as TextPart}
 use Rattle.text.specs.declared.number.NumberKind.{NumberKind}
 use Rattle.text.specs.declared.number.NumberKind.TheVariants.{Whole, Decimal}
 use Rattle.text.specs.declared.token.Token.TheVariants.{Dollar, OpenBracket, OpenBrace, Name, Number, Text}
@@ -30,23 +30,23 @@ returns-in_err-text-in-Text g c text k =
 pub returns-in-OpenBracket : goal.returns-in-OpenBracket
 returns-in-OpenBracket g c text k =
     let s = c.args.lexeme.start in
-    let n = c.new.result in
     start_node (holds_as k OpenBracket c.in-OpenBracket.is) starts_list
-    (bare_node text _ ListKind s c.args.name n n.flag (list s nil) c.new.ensures refl refl (ap (λ (n : Node). n.flag) c.new.ensures) refl refl refl)
+    (bare_node text _ ListContent s c.args.name c.new.result (list s nil) c.new.ensures refl refl refl refl refl tt refl)
 
 pub returns-in-OpenBrace : goal.returns-in-OpenBrace
 returns-in-OpenBrace g c text k =
     let s = c.args.lexeme.start in
-    let n = c.new-in-OpenBrace.result in
     start_node (holds_as k OpenBrace c.in-OpenBrace.is) starts_object
-    (bare_node text _ Object s c.args.name n n.flag (object s end) c.new-in-OpenBrace.ensures refl refl (ap (λ (n : Node). n.flag) c.new-in-OpenBrace.ensures) refl refl refl)
+    (bare_node text _ Object s c.args.name c.new-in-OpenBrace.result (object s end) c.new-in-OpenBrace.ensures refl refl refl refl refl tt refl)
 
 pub returns-in-Dollar : goal.returns-in-Dollar
 returns-in-Dollar g c text k =
     let s = c.args.lexeme.start in
-    let n = c.new-in-Dollar.result in
+    let e = c.args.lexeme.end in
+    let none : e - e ≡ 0 = omega arith in
     start_node (holds_as k Dollar c.in-Dollar.is) starts_variable
-    (bare_node text _ Variable s c.args.name n n.flag (variable s []) c.new-in-Dollar.ensures refl refl (ap (λ (n : Node). n.flag) c.new-in-Dollar.ensures) refl refl refl)
+    (bare_node text _ (Variable (TextPart e e)) s c.args.name c.new-in-Dollar.result (variable s []) c.new-in-Dollar.ensures refl refl refl refl refl
+    (omega arith, k.within) (ap (λ n. take n (drop e text)) none))
 
 pub returns-in-Name : goal.returns-in-Name
 returns-in-Name g c text k =
@@ -68,10 +68,8 @@ returns-in_ok-text-in-Text g c text k =
     let h = holds_as k (Text c.in-Text.raw c.in-Text.plain) c.in-Text.is in
     let p = c.in_ok-text-in-Text.ensures text h.1.0 h.0 h.1.2 in
     let s = c.args.lexeme.start in
-    let n = c.new-in-Text.result in
     start_node h.1.1 (starts_leaf (l_string refl))
-    (node_for text _ _ String s c.args.name n n.flag n.scale (Some c.in_ok-text-in-Text.text) (scalar s (string (encodes h.1.0))) c.new-in-Text.ensures refl refl
-    (ap (λ (n : Node). n.flag) c.new-in-Text.ensures) (ap (λ (n : Node). n.scale.negative) c.new-in-Text.ensures) (ap (λ (n : Node). n.scale.exponent) c.new-in-Text.ensures)
+    (node_for text _ _ (String c.in_ok-text-in-Text.text) s c.args.name c.new-in-Text.result (scalar s (string (encodes h.1.0))) c.new-in-Text.ensures refl refl refl refl refl
     p.fits p.is p.more p.grown)
 
 pub returns-in_default : goal.returns-in_default

@@ -34,11 +34,11 @@ returns g c d room i name o =
     let h = holds_as k.lexed (Name w) c.in-Name.is in
     let p : Pushed (table_of c.args.self.text.now c.args.nodes.now) (table_of c.args.self.text.now c.add.new.self) _ = record { text = refl; pool = ap vec_items c.in_ok-add.ensures.pool; nodes = c.in_ok-add.ensures.told } in
     let says : Says (table_of c.args.self.text.now c.args.nodes.now) _ (variable o.start w.now) = record {
-      kind = o.says.kind;
+      kind = refl;
       place = o.place;
-      flag = o.says.flag;
-      negative = o.says.negative;
-      exponent = o.says.exponent;
+      flag = refl;
+      negative = refl;
+      exponent = refl;
       fits = (k.lexed.ordered, k.lexed.within);
       text = sym h.1;
     } in
