@@ -11,29 +11,30 @@ use Rattle.text.specs.declared.token.Token.TheVariants.{Dollar, OpenBracket, Ope
 use Rattle.text.specs.TokenGrammar.{dollar, open_bracket, open_brace, Lexical, a_mark, the_end}
 use Rattle.text.specs.TokenFound.{view_of, Holds}
 use Rattle.names.specs.declared.part.Part.{Part}
-use Rattle.source.specs.declared.nodes.Node.{Node}
+use Rattle.source.specs.declared.nodes.Content.{Content}
+use Rattle.source.specs.Nodes.{headed}
 use Rattle.reader.specs.Manner.{Manner}
 use Rattle.reader.specs.Tokens.{Sights, blind}
 use Rattle.reader.specs.Grammar.{Leaf, l_null}
 use Rattle.reader.specs.Reading.{fails, Starts, starts_leaf, Reads, r_blind, r_none}
-use Rattle.reader.specs.Told.{Blames, Lexed, LeafNode, LeafTold, NodeFor, StartNode, StartTold, Looks}
+use Rattle.reader.specs.Told.{Blames, Lexed, LeafContent, LeafTold, NodeFor, StartContent, StartTold, Looks}
 
 -- a token as its variant
 pub holds_as : {language : Language} {text : List ℕ} {l : Lexeme} (k : Lexed language text l) (t : Token) → l.token ≡ t → Holds language text l.start l.end (view_of t) k.token
 holds_as {language} {text} {l} k t e = subst (λ (u : Token). Holds language text l.start l.end (view_of u) k.token) e k.holds
 
-pub start_node : {text before after : List ℕ} {name : Option Part} {start : ℕ} {x y : Lexical} {n : Node} {t : Raw} → x ≡ y → Starts start y t → NodeFor text before after name t n → StartNode text before after name start x n
-start_node {start = start} {t = t} e s n = record { tree = t; starts = subst (λ (z : Lexical). Starts start z t) (sym e) s; node = n }
+pub start_node : {text before after : List ℕ} {start : ℕ} {x y : Lexical} {c : Content} {t : Raw} → x ≡ y → Starts start y t → ((name : Option Part) → NodeFor text before after name t (headed c start name)) → StartContent text before after start x c
+start_node {start = start} {t = t} e s n = λ name. record { tree = t; starts = subst (λ (z : Lexical). Starts start z t) (sym e) s; node = n name }
 
-pub leaf_start : {text before after : List ℕ} {name : Option Part} {start : ℕ} {x y : Lexical} {n : Node} → x ≡ y → LeafNode text before after name start y n → StartNode text before after name start x n
-leaf_start e l = start_node e (starts_leaf l.leaf) l.node
+pub leaf_start : {text before after : List ℕ} {start : ℕ} {x y : Lexical} {c : Content} → x ≡ y → LeafContent text before after start y c → StartContent text before after start x c
+leaf_start {start = start} e l = λ name. let a = l name in record { tree = a.tree; starts = subst (λ (z : Lexical). Starts start z a.tree) (sym e) (starts_leaf a.leaf); node = a.node }
 
-pub no_memory : (text before after : List ℕ) (name : Option Part) (start : ℕ) (x : Lexical) (f : Fault) → f ≡ NoMemory → StartTold text before after name start x (Err f)
-no_memory text before after name start x f e = subst (λ (g : Fault). StartTold text before after name start x (Err g)) (sym e) tt
+pub no_memory : (text before after : List ℕ) (start : ℕ) (x : Lexical) (f : Fault) → f ≡ NoMemory → StartTold text before after start x (Err f)
+no_memory text before after start x f e = subst (λ (g : Fault). StartTold text before after start x (Err g)) (sym e) tt
 
-pub leaf_told : (text before after : List ℕ) (name : Option Part) (start : ℕ) (x y : Lexical) (r : Result Node Fault) → x ≡ y → LeafTold text before after name start y r → StartTold text before after name start x r
-leaf_told text before after name start x y (Ok n) e l = leaf_start e l
-leaf_told text before after name start x y (Err f) e l = no_memory text before after name start x f l
+pub leaf_told : (text before after : List ℕ) (start : ℕ) (x y : Lexical) (r : Result Content Fault) → x ≡ y → LeafTold text before after start y r → StartTold text before after start x r
+leaf_told text before after start x y (Ok c) e l = leaf_start e l
+leaf_told text before after start x y (Err f) e l = no_memory text before after start x f l
 
 -- the tokens that begin a value
 abbrev beginning : Lexical → Bool

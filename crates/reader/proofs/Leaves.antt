@@ -1,5 +1,5 @@
 -- Tokens, and the nodes of values that are one token.
-use Rattle.std.proofs.Common.{◌≡◌, ℕ, ◌+◌, ◌-◌, ◌≤◌, Bool, true, false, List, [], ◌∷◌, ◌++◌, length, take, drop, pos, IfOk, None, Ok, Err, Option, Result, sym, refl, ap, ◌∙◌, subst, ⊎_elim, append-nil, arith, length-append}
+use Rattle.std.proofs.Common.{◌≡◌, ℕ, ◌+◌, ◌-◌, ◌≤◌, true, List, [], ◌∷◌, ◌++◌, length, take, drop, IfOk, Ok, Err, Option, Result, sym, refl, ap, ◌∙◌, subst, ⊎_elim, append-nil, arith, length-append}
 use Rattle.std.proofs.lemmas.Bool.{cases_Bool}
 use Rattle.std.proofs.lemmas.Int.{ints}
 use Rattle.std.proofs.lemmas.List.{drop_at, drop-drop, take_all}
@@ -8,7 +8,6 @@ use Rattle.model.proofs.CoNames.{same_true}
 use Rattle.text.specs.declared.fault.Fault.{Fault}
 use Rattle.text.specs.declared.language.Language.{Language}
 use Rattle.text.specs.declared.number.NumberKind.{NumberKind}
-use Rattle.text.specs.declared.decimal.Scale.{Scale}
 use Rattle.text.specs.declared.token.Lexeme.{Lexeme}
 use Rattle.text.specs.Cuts.{part}
 use Rattle.text.specs.Places.{Placed, is_end}
@@ -19,7 +18,6 @@ use Rattle.text.proofs.LexBase.{cut, length_part}
 use Rattle.names.specs.declared.part.Part.{Part}
 use Rattle.names.specs.declared.part.Part.TheVariants.{Pool}
 use Rattle.names.specs.Parts.{PartFits, MayFit, bytes_of, bytes_if_any}
-use Rattle.source.specs.declared.nodes.Node.{Node}
 use Rattle.source.specs.declared.nodes.Content.{Content}
 use Rattle.source.specs.Contents.{kind_in, flag_in, negative_in, exponent_in, text_in}
 use Rattle.source.specs.Heads.{kind_of, flag_of, negative_of, exponent_of, text_of}
@@ -44,20 +42,20 @@ not_beyond n (great h g) =
     ⊎_elim (λ e. omega (arith, ints, b, w.power, e, n.small)) (λ e. omega (arith, ints, b, w.power, e, n.small)) w.sizes
 
 -- the node of a value with nothing below it
-pub node_for : (text before after : List ℕ) (c : Content) (s : ℕ) (name : Option Part) (m : Node) (t : Raw) → m ≡ headed c s name → kind_in c ≡ kind_of t → s ≡ place_of t → flag_in c ≡ flag_of t → negative_in c ≡ negative_of t → exponent_in c ≡ exponent_of t
-    → MayFit text after (text_in c) → bytes_if_any text after (text_in c) ≡ text_of t → (added : List ℕ) → after ≡ before ++ added → NodeFor text before after name t m
-node_for text before after c s name m t e ek es ef en ex fits is added grown = subst (NodeFor text before after name t) (sym e) (record {
+pub node_for : (text before after : List ℕ) (c : Content) (s : ℕ) (t : Raw) → kind_in c ≡ kind_of t → s ≡ place_of t → flag_in c ≡ flag_of t → negative_in c ≡ negative_of t → exponent_in c ≡ exponent_of t
+    → MayFit text after (text_in c) → bytes_if_any text after (text_in c) ≡ text_of t → (added : List ℕ) → after ≡ before ++ added → (name : Option Part) → NodeFor text before after name t (headed c s name)
+node_for text before after c s t ek es ef en ex fits is added grown name = record {
   says = record { kind = ek; place = es; flag = ef; negative = en; exponent = ex; fits = fits; text = is };
   named = refl;
   size = refl;
   more = added;
   grown = grown;
-})
+}
 
 -- the same, where the pool stays
-pub bare_node : (text pool : List ℕ) (c : Content) (s : ℕ) (name : Option Part) (m : Node) (t : Raw) → m ≡ headed c s name → kind_in c ≡ kind_of t → s ≡ place_of t → flag_in c ≡ flag_of t → negative_in c ≡ negative_of t → exponent_in c ≡ exponent_of t
-    → MayFit text pool (text_in c) → bytes_if_any text pool (text_in c) ≡ text_of t → NodeFor text pool pool name t m
-bare_node text pool c s name m t e ek es ef en ex fits is = node_for text pool pool c s name m t e ek es ef en ex fits is [] (sym (append-nil pool))
+pub bare_node : (text pool : List ℕ) (c : Content) (s : ℕ) (t : Raw) → kind_in c ≡ kind_of t → s ≡ place_of t → flag_in c ≡ flag_of t → negative_in c ≡ negative_of t → exponent_in c ≡ exponent_of t
+    → MayFit text pool (text_in c) → bytes_if_any text pool (text_in c) ≡ text_of t → (name : Option Part) → NodeFor text pool pool name t (headed c s name)
+bare_node text pool c s t ek es ef en ex fits is = node_for text pool pool c s t ek es ef en ex fits is [] (sym (append-nil pool))
 
 -- what was added to a pool is a part of it
 pub pool_part : (text before added after : List ℕ) (i j : ℕ) → after ≡ before ++ added → i ≡ length before → j ≡ length after → PartFits text after (Pool i j) × (bytes_of text after (Pool i j) ≡ added)

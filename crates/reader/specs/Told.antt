@@ -17,9 +17,10 @@ use Rattle.names.specs.declared.names.Names.{Names}
 use Rattle.names.specs.declared.part.Part.{Part}
 use Rattle.names.specs.Parts.{PartFits, bytes_of}
 use Rattle.names.specs.Index.{Sound, names_from}
+use Rattle.source.specs.declared.nodes.Content.{Content}
 use Rattle.source.specs.declared.nodes.Node.{Node}
 use Rattle.source.specs.declared.nodes.Nodes.{Nodes}
-use Rattle.source.specs.Nodes.{node_at}
+use Rattle.source.specs.Nodes.{node_at, headed}
 use Rattle.source.specs.Table.{Table, table_of, Says, Stands, StandsAll, StandsMems, Keeps, past_of}
 use Rattle.reader.specs.declared.reading.Reader.{Reader}
 use Rattle.reader.specs.Manner.{Manner}
@@ -73,9 +74,13 @@ pub record LeafNode (text before after : List ℕ) (name : Option Part) (start :
   pub leaf : Leaf start x tree
   pub node : NodeFor text before after name tree n
 
-abbrev pub LeafTold : (text before after : List ℕ) → Option Part → ℕ → Lexical → Result Node Fault → Type 0
-LeafTold text before after name start x (Ok n) = LeafNode text before after name start x n
-LeafTold text before after name start x (Err f) = f ≡ NoMemory
+-- what a value that is one token says of itself: its node, under whatever name
+abbrev pub LeafContent : (text before after : List ℕ) → ℕ → Lexical → Content → Type 0
+LeafContent text before after start x c = (name : Option Part) → LeafNode text before after name start x (headed c start name)
+
+abbrev pub LeafTold : (text before after : List ℕ) → ℕ → Lexical → Result Content Fault → Type 0
+LeafTold text before after start x (Ok c) = LeafContent text before after start x c
+LeafTold text before after start x (Err f) = f ≡ NoMemory
 
 -- the bytes of a part, which the text holds or which were added to the pool
 pub record PartFor (text before after bytes : List ℕ) (p : Part) : Type 0 where
@@ -94,9 +99,13 @@ pub record StartNode (text before after : List ℕ) (name : Option Part) (start 
   pub starts : Starts start x tree
   pub node : NodeFor text before after name tree n
 
-abbrev pub StartTold : (text before after : List ℕ) → Option Part → ℕ → Lexical → Result Node Fault → Type 0
-StartTold text before after name start x (Ok n) = StartNode text before after name start x n
-StartTold text before after name start x (Err f) = Blames f (λ g. (g ≡ BadText start) × ((t : Raw) → Starts start x t → ⊥))
+-- what a value says of itself that begins with a token
+abbrev pub StartContent : (text before after : List ℕ) → ℕ → Lexical → Content → Type 0
+StartContent text before after start x c = (name : Option Part) → StartNode text before after name start x (headed c start name)
+
+abbrev pub StartTold : (text before after : List ℕ) → ℕ → Lexical → Result Content Fault → Type 0
+StartTold text before after start x (Ok c) = StartContent text before after start x c
+StartTold text before after start x (Err f) = Blames f (λ g. (g ≡ BadText start) × ((t : Raw) → Starts start x t → ⊥))
 
 -- the first token from `at` on, and the node of the value that it begins
 pub record Begun (language : Language) (text : List ℕ) (at : ℕ) (before after : List ℕ) (name : Option Part) (l : Lexeme) (n : Node) : Type 0 where

@@ -1,4 +1,4 @@
-// The nodes that tokens begin.
+// The values that tokens begin.
 ghost use Rattle.std.specs.Prelude.{◌≡◌, ℕ, ◌+◌, ◌-◌, ◌<◌, ◌≤◌, List, length};
 ghost use Rattle.std.proofs.Math.Utf8.{encodes};
 ghost use Rattle.text.specs.declared.fault.Fault.TheVariants.{NoMemory};
@@ -6,7 +6,7 @@ ghost use Rattle.text.specs.declared.number.NumberKind.TheVariants.{Whole, Decim
 ghost use Rattle.text.specs.Cuts.{part as cut_out};
 ghost use Rattle.text.specs.TokenGrammar.{a_name, a_number, Numeral};
 ghost use Rattle.text.specs.TokenFound.{Writes};
-ghost use Rattle.reader.specs.Told.{LookTold, LeafNode, LeafTold, PartTold, Lexed, StartTold, BeginTold};
+ghost use Rattle.reader.specs.Told.{LookTold, LeafContent, LeafTold, PartTold, Lexed, StartTold, BeginTold};
 
 use crate::reading::Reader;
 use names::part::Part;
@@ -18,47 +18,41 @@ use text::number::NumberKind;
 use text::token::{Lexeme, Token};
 use text::{decimal, graphql, json, string};
 
-// The node of a name from `start` to `end`: null, a boolean or an enum value.
-fn word_node(word: &[u8], start: usize, end: usize, name: Option<Part>) -> Node
-    ensures { (text pool : List ℕ) → start ≤ end → end ≤ length text → word.now ≡ cut_out text start end → LeafNode text pool pool name start (a_name word.now) result }
+// A name from `start` to `end`: null, a boolean or an enum value.
+fn word_content(word: &[u8], start: usize, end: usize) -> Content
+    ensures { (text pool : List ℕ) → start ≤ end → end ≤ length text → word.now ≡ cut_out text start end → LeafContent text pool pool start (a_name word.now) result }
 {
     if word == b"null".as_slice() {
-        return Node::new(Content::Null, start, name);
+        Content::Null
+    } else if word == b"true".as_slice() {
+        Content::Boolean(true)
+    } else if word == b"false".as_slice() {
+        Content::Boolean(false)
+    } else {
+        Content::Enum(Part::Text { start, end })
     }
-    if word == b"true".as_slice() {
-        return Node::new(Content::Boolean(true), start, name);
-    }
-    if word == b"false".as_slice() {
-        return Node::new(Content::Boolean(false), start, name);
-    }
-    Node::new(Content::Enum(Part::Text { start, end }), start, name)
 }
 
-// The node of a whole number from `start` to `end`, whose normal form ends where it ends.
-fn whole_node(spelled: &[u8], start: usize, end: usize, name: Option<Part>) -> Node
-    ensures { (text pool : List ℕ) → start ≤ end → end ≤ length text → spelled.now ≡ cut_out text start end → LeafNode text pool pool name start (a_number Whole spelled.now) result }
+// A whole number that ends at `end`, where its normal form ends too.
+fn whole_content(spelled: &[u8], end: usize) -> Content
+    ensures { (text pool : List ℕ) (start : ℕ) → start ≤ end → end ≤ length text → spelled.now ≡ cut_out text start end → LeafContent text pool pool start (a_number Whole spelled.now) result }
 {
-    let from = end.saturating_sub(decimal::whole(spelled).len());
-    Node::new(Content::Whole(Part::Text { start: from, end }), start, name)
+    let start = end.saturating_sub(decimal::whole(spelled).len());
+    Content::Whole(Part::Text { start, end })
 }
 
-// The node of a decimal, whose digits in normal form are added to the pool.
-fn decimal_node(
-    spelled: &[u8],
-    start: usize,
-    name: Option<Part>,
-    pool: &mut Vec<u8>,
-) -> Result<Node, Fault>
+// A decimal, whose digits in normal form are added to the pool.
+fn decimal_content(spelled: &[u8], pool: &mut Vec<u8>) -> Result<Content, Fault>
     requires { Numeral spelled.now Decimal }
-    ensures { (text : List ℕ) → LeafTold text pool.old.items pool.new.items name start (a_number Decimal spelled.now) result }
+    ensures { (text : List ℕ) (start : ℕ) → LeafTold text pool.old.items pool.new.items start (a_number Decimal spelled.now) result }
 {
-    let from = pool.len();
+    let start = pool.len();
     let scale = decimal::normal(spelled, pool)?;
     let digits = Part::Pool {
-        start: from,
+        start,
         end: pool.len(),
     };
-    Ok(Node::new(Content::Decimal { scale, digits }, start, name))
+    Ok(Content::Decimal { scale, digits })
 }
 
 impl<'a, W: Written> Reader<'a, W> {
@@ -98,34 +92,25 @@ impl<'a, W: Written> Reader<'a, W> {
         })
     }
 
-    // The node of a value that begins with the token; nothing is below it yet.
-    fn node_of(
-        self,
-        lexeme: Lexeme<'_>,
-        name: Option<Part>,
-        pool: &mut Vec<u8>,
-    ) -> Result<Node, Fault>
+    // What the value that begins with the token says of itself.
+    fn content_of(self, lexeme: Lexeme<'_>, pool: &mut Vec<u8>) -> Result<Content, Fault>
         requires { (text : List ℕ) × Lexed W.LANGUAGE text lexeme }
-        ensures { (text : List ℕ) (k : Lexed W.LANGUAGE text lexeme.entry) → StartTold text pool.old.items pool.new.items name lexeme.entry.start k.token result }
+        ensures { (text : List ℕ) (k : Lexed W.LANGUAGE text lexeme.entry) → StartTold text pool.old.items pool.new.items lexeme.entry.start k.token result }
     {
         let Lexeme { token, start, end } = lexeme;
         match token {
-            Token::OpenBracket => Ok(Node::new(Content::List, start, name)),
-            Token::OpenBrace => Ok(Node::new(Content::Object, start, name)),
-            // Its name is read once the depth is judged: nothing after the `$` till then.
-            Token::Dollar => Ok(Node::new(
-                Content::Variable(Part::Text { start: end, end }),
-                start,
-                name,
-            )),
-            Token::Name(word) => Ok(word_node(word, start, end, name)),
+            Token::OpenBracket => Ok(Content::List),
+            Token::OpenBrace => Ok(Content::Object),
+            // Its name is read once the depth is judged: till then the empty part after the sign.
+            Token::Dollar => Ok(Content::Variable(Part::Text { start: end, end })),
+            Token::Name(word) => Ok(word_content(word, start, end)),
             Token::Number(kind, spelled) => match kind {
-                NumberKind::Whole => Ok(whole_node(spelled, start, end, name)),
-                NumberKind::Decimal => decimal_node(spelled, start, name, pool),
+                NumberKind::Whole => Ok(whole_content(spelled, end)),
+                NumberKind::Decimal => decimal_content(spelled, pool),
             },
             Token::Text { raw, plain } => {
                 let text = self.string_part(lexeme, raw, plain, pool)?;
-                Ok(Node::new(Content::String(text), start, name))
+                Ok(Content::String(text))
             }
             _ => Err(Fault::BadText(start)),
         }
@@ -141,7 +126,7 @@ impl<'a, W: Written> Reader<'a, W> {
         ensures { BeginTold W.LANGUAGE self.entry at name pool.old.items pool.new.items result }
     {
         let lexeme = self.token(at)?;
-        let node = self.node_of(lexeme, name, pool)?;
-        Ok((lexeme, node))
+        let content = self.content_of(lexeme, pool)?;
+        Ok((lexeme, Node::new(content, lexeme.start, name)))
     }
 }

@@ -2,6 +2,8 @@ use Rattle.std.proofs.Common.{vec_items, sym, refl, ap, ◌∙◌, arith}
 use Rattle.std.proofs.lemmas.Result.{err_from_is_err_and}
 use Rattle.model.specs.Values.{variable}
 use Rattle.names.specs.declared.names.Names.{Names}
+use Rattle.names.specs.declared.part.Part.TheVariants.{Text}
+use Rattle.source.specs.declared.nodes.Content.TheVariants.{Variable}
 use Rattle.source.specs.declared.nodes.Node.{Node}
 use Rattle.source.specs.Table.{Says, table_of}
 use Rattle.text.specs.declared.token.Token.TheVariants.{Name}
@@ -32,8 +34,9 @@ returns g c d room i name o =
     let l = c.in_ok-lexeme.lexeme in
     let w = c.in-Name.field-0 in
     let h = holds_as k.lexed (Name w) c.in-Name.is in
-    let p : Pushed (table_of c.args.self.text.now c.args.nodes.now) (table_of c.args.self.text.now c.add.new.self) _ = record { text = refl; pool = ap vec_items c.in_ok-add.ensures.pool; nodes = c.in_ok-add.ensures.told } in
-    let says : Says (table_of c.args.self.text.now c.args.nodes.now) _ (variable o.start w.now) = record {
+    let n : Node = record { content = Variable (Text l.start l.end); place = c.args.node.place; size = c.args.node.size; name = c.args.node.name } in
+    let p : Pushed (table_of c.args.self.text.now c.args.nodes.now) (table_of c.args.self.text.now c.add.new.self) n = record { text = refl; pool = ap vec_items c.in_ok-add.ensures.pool; nodes = c.in_ok-add.ensures.told } in
+    let says : Says (table_of c.args.self.text.now c.args.nodes.now) n (variable o.start w.now) = record {
       kind = refl;
       place = o.place;
       flag = refl;
@@ -44,5 +47,5 @@ returns g c d room i name o =
     } in
     leaf_added (variable o.start w.now) _ _
     (r_variable {v = sees l.start l.end k.lexed.token} o.seen room k.seen (ap (λ (x : Lexical). as_variable o.start (sees l.start l.end x)) h.0))
-    p o.size o.named (leaf_head p says o.size, ap (λ (n : Node). n.size) (pushed_node p) ∙ o.size) (ap (λ (n : Names). vec_items n.links) c.in_ok-add.ensures.names)
+    p o.size o.named (leaf_head p says o.size, ap (λ (k : Node). k.size) (pushed_node p) ∙ o.size) (ap (λ (k : Names). vec_items k.links) c.in_ok-add.ensures.names)
     (omega (arith, o.forward, k.onward c.requires, k.lexed.ordered)) k.lexed.within

@@ -13,10 +13,10 @@ use Rattle.reader.specs.Reading.{starts_leaf, starts_list, starts_object, starts
 use Rattle.reader.proofs.RdSights.{token_numeral}
 use Rattle.reader.proofs.Leaves.{node_for, bare_node}
 use Rattle.reader.proofs.Beginning.{holds_as, start_node, leaf_start, leaf_told, no_memory, no_start}
-use Rattle.reader.proofs.reading.Reader.node_of.Goals as goal
+use Rattle.reader.proofs.reading.Reader.content_of.Goals as goal
 
-pub decimal_node-requires : goal.decimal_node-requires
-decimal_node-requires g c =
+pub decimal_content-requires : goal.decimal_content-requires
+decimal_content-requires g c =
     let k = c.requires.1 in
     let h = holds_as k (Number Decimal c.in-Number.spelled) (c.in-Number.is ∙ ap (λ (k : NumberKind). Number k c.in-Number.spelled) c.in-Decimal.is) in
     token_numeral g.W.Written.LANGUAGE _ _ _ _ (subst (λ (x : Lexical). TokenOf g.W.Written.LANGUAGE (drop c.args.lexeme.start c.requires.0) x (drop c.args.lexeme.end c.requires.0)) h.0 k.reads)
@@ -25,19 +25,19 @@ pub returns-in_err-text-in-Text : goal.returns-in_err-text-in-Text
 returns-in_err-text-in-Text g c text k =
     let h = holds_as k (Text c.in-Text.raw c.in-Text.plain) c.in-Text.is in
     let p = err_from_is_err_and c.from_residual.result c.from_residual.ensures.1 in
-    rw (p.1, p.2) (no_memory text [] [] c.args.name c.args.lexeme.start k.token _ (c.in_err-text-in-Text.ensures text h.1.0 h.0 h.1.2))
+    rw (p.1, p.2) (no_memory text [] [] c.args.lexeme.start k.token _ (c.in_err-text-in-Text.ensures text h.1.0 h.0 h.1.2))
 
 pub returns-in-OpenBracket : goal.returns-in-OpenBracket
 returns-in-OpenBracket g c text k =
     let s = c.args.lexeme.start in
     start_node (holds_as k OpenBracket c.in-OpenBracket.is) starts_list
-    (bare_node text _ ListContent s c.args.name c.new.result (list s nil) c.new.ensures refl refl refl refl refl tt refl)
+    (bare_node text _ ListContent s (list s nil) refl refl refl refl refl tt refl)
 
 pub returns-in-OpenBrace : goal.returns-in-OpenBrace
 returns-in-OpenBrace g c text k =
     let s = c.args.lexeme.start in
     start_node (holds_as k OpenBrace c.in-OpenBrace.is) starts_object
-    (bare_node text _ Object s c.args.name c.new-in-OpenBrace.result (object s end) c.new-in-OpenBrace.ensures refl refl refl refl refl tt refl)
+    (bare_node text _ Object s (object s end) refl refl refl refl refl tt refl)
 
 pub returns-in-Dollar : goal.returns-in-Dollar
 returns-in-Dollar g c text k =
@@ -45,23 +45,23 @@ returns-in-Dollar g c text k =
     let e = c.args.lexeme.end in
     let none : e - e ≡ 0 = omega arith in
     start_node (holds_as k Dollar c.in-Dollar.is) starts_variable
-    (bare_node text _ (Variable (TextPart e e)) s c.args.name c.new-in-Dollar.result (variable s []) c.new-in-Dollar.ensures refl refl refl refl refl
+    (bare_node text _ (Variable (TextPart e e)) s (variable s []) refl refl refl refl refl
     (omega arith, k.within) (ap (λ n. take n (drop e text)) none))
 
 pub returns-in-Name : goal.returns-in-Name
 returns-in-Name g c text k =
     let h = holds_as k (Name c.in-Name.word) c.in-Name.is in
-    leaf_start h.0 (c.word_node.ensures text _ k.ordered k.within h.1)
+    leaf_start h.0 (c.word_content.ensures text _ k.ordered k.within h.1)
 
 pub returns-in-Whole : goal.returns-in-Whole
 returns-in-Whole g c text k =
     let h = holds_as k (Number Whole c.in-Number.spelled) (c.in-Number.is ∙ ap (λ (k : NumberKind). Number k c.in-Number.spelled) c.in-Whole.is) in
-    leaf_start h.0 (c.whole_node.ensures text _ k.ordered k.within h.1)
+    leaf_start h.0 (c.whole_content.ensures text _ c.args.lexeme.start k.ordered k.within h.1)
 
 pub returns-in-Decimal : goal.returns-in-Decimal
 returns-in-Decimal g c text k =
     let h = holds_as k (Number Decimal c.in-Number.spelled) (c.in-Number.is ∙ ap (λ (k : NumberKind). Number k c.in-Number.spelled) c.in-Decimal.is) in
-    leaf_told text _ _ _ _ _ _ _ h.0 (c.decimal_node.ensures text)
+    leaf_told text _ _ _ _ _ _ h.0 (c.decimal_content.ensures text c.args.lexeme.start)
 
 pub returns-in_ok-text-in-Text : goal.returns-in_ok-text-in-Text
 returns-in_ok-text-in-Text g c text k =
@@ -69,7 +69,7 @@ returns-in_ok-text-in-Text g c text k =
     let p = c.in_ok-text-in-Text.ensures text h.1.0 h.0 h.1.2 in
     let s = c.args.lexeme.start in
     start_node h.1.1 (starts_leaf (l_string refl))
-    (node_for text _ _ (String c.in_ok-text-in-Text.text) s c.args.name c.new-in-Text.result (scalar s (string (encodes h.1.0))) c.new-in-Text.ensures refl refl refl refl refl
+    (node_for text _ _ (String c.in_ok-text-in-Text.text) s (scalar s (string (encodes h.1.0))) refl refl refl refl refl
     p.fits p.is p.more p.grown)
 
 pub returns-in_default : goal.returns-in_default
