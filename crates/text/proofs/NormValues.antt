@@ -1,10 +1,10 @@
 -- Laws of the value of digits.
-use Rattle.std.proofs.Common.{◌≡◌, ℕ, zero, suc, ◌+◌, ◌-◌, ◌*◌, ◌^◌, ◌<◌, ◌≤◌, Bool, Bor, Option, None, Some, MatchOption, unwrap_or, true, false, ◌≢◌, List, [], ◌∷◌, ◌++◌, length, get_or, take, drop, replicate, ℤ, pos, neg_ℤ, nat_abs, sym, refl, ap, ◌∙◌, subst, mul_assoc, add-mul, append_assoc, append-nil, take_all, arith, length-append, length-drop}
+use Rattle.std.proofs.Common.{◌≡◌, ℕ, zero, suc, ◌+◌, ◌-◌, ◌*◌, ◌^◌, ◌<◌, ◌≤◌, Bor, Option, None, Some, MatchOption, unwrap_or, true, false, ◌≢◌, List, [], ◌∷◌, ◌++◌, length, get_or, take, drop, replicate, ℤ, pos, neg_ℤ, sym, refl, ap, ◌∙◌, subst, mul_assoc, add-mul, append_assoc, take_all, arith, length-append, length-drop}
 use native.Mathlib.Nat.{pow-succ'}
 use Rattle.std.proofs.lemmas.List.{take_more, take-append-drop, drop-append-le, take-append-le, get_or_append_left, length-take-le}
 use Rattle.text.specs.NumberGrammar.{IsDigit, Digits, none, digit}
 use Rattle.text.specs.NumberWorth.{after, value, Power, no_power, plain, more, less}
-use Rattle.text.specs.NormalForm.{Each, Held, Led, Grown, signed}
+use Rattle.text.specs.NormalForm.{Each, Held, Led, Grown}
 use Rattle.text.proofs.LexBase.{gone}
 
 pub after-append : (v : ℕ) (xs ys : List ℕ) → after v (xs ++ ys) ≡ after (after v xs) ys
@@ -150,14 +150,6 @@ nothing_past base ds h = gone ds base h
 pub something_past : (base : ℕ) (ds : List ℕ) → base < length ds → drop base ds ≡ [] → ⊥
 something_past base ds h e = omega (arith, length-drop base ds, ap length e)
 
-pub nat_abs-neg : (n : ℕ) → nat_abs (neg_ℤ (pos n)) ≡ n
-nat_abs-neg zero = refl
-nat_abs-neg (suc n) = refl
-
-pub nat_abs-signed : (b : Bool) (n : ℕ) → nat_abs (signed b n) ≡ n
-nat_abs-signed true n = nat_abs-neg n
-nat_abs-signed false n = refl
-
 -- what is left after the zeros
 pub held_none : Held [] 0
 held_none = record { each = λ k h. absurd (omega arith); led = λ h. omega arith; worth = refl }
@@ -184,9 +176,6 @@ left all ds zeros v h e = record {
 -- what follows the rest of the digits are zeros
 abbrev pub Trimming : List ℕ → List ℕ → Type 0
 Trimming digits rest = digits ≡ rest ++ replicate (length digits - length rest) 48
-
-pub trim_none : (digits : List ℕ) → Trimming digits digits
-trim_none digits = let z : length digits - length digits ≡ 0 = omega arith in sym (append-nil digits) ∙ ap (λ k. digits ++ replicate k 48) (sym z)
 
 pub trim_more : (digits rest : List ℕ) → Trimming digits rest → 1 ≤ length rest → get_or rest (length rest - 1) 0 ≡ 48 → Trimming digits (take (length rest - 1) rest)
 trim_more digits rest t h b =

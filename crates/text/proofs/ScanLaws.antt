@@ -94,8 +94,8 @@ refused_same text at (NoSpace j) e f g = absurd f
 refused_same text at (RepeatedName j) e f g = absurd f
 refused_same text at NoMemory e f g = absurd f
 
-pub one_scan_lem : OneScan
-one_scan_lem text at (Ok r) (Ok s) f g = ap Ok (found_same r s f g)
-one_scan_lem text at (Ok r) (Err e) f g = absurd (found_refused r e f g)
-one_scan_lem text at (Err e) (Ok s) f g = absurd (found_refused s e g f)
-one_scan_lem text at (Err d) (Err e) f g = ap Err (refused_same text at d e f g)
+pub scans_once : OneScan
+scans_once text at (Ok r) (Ok s) f g = ap Ok (found_same r s f g)
+scans_once text at (Ok r) (Err e) f g = absurd (found_refused r e f g)
+scans_once text at (Err e) (Ok s) f g = absurd (found_refused s e g f)
+scans_once text at (Err d) (Err e) f g = ap Err (refused_same text at d e f g)

@@ -203,13 +203,13 @@ move_exp b t e = grind (arith, nat_tests, e)
 move_power : (v b : ℕ) (t : State) → next (ExpDigits v) b ≡ Some t → IsDigit b × (t ≡ ExpDigits (capped (v * 10 + (b - 48))))
 move_power v b t e = grind (arith, nat_tests, e)
 
-is_mark_lem : {b : ℕ} → (b ≡ 101) ⊎ (b ≡ 69) → IsMark b
-is_mark_lem (inl e) = subst IsMark (sym e) small_e
-is_mark_lem (inr e) = subst IsMark (sym e) great_e
+exponent_mark : {b : ℕ} → (b ≡ 101) ⊎ (b ≡ 69) → IsMark b
+exponent_mark (inl e) = subst IsMark (sym e) small_e
+exponent_mark (inr e) = subst IsMark (sym e) great_e
 
-is_sign_lem : {b : ℕ} → (b ≡ 43) ⊎ (b ≡ 45) → IsSign (b ∷ [])
-is_sign_lem (inl e) = subst (λ b. IsSign (b ∷ [])) (sym e) sign_plus
-is_sign_lem (inr e) = subst (λ b. IsSign (b ∷ [])) (sym e) sign_minus
+exponent_sign : {b : ℕ} → (b ≡ 43) ⊎ (b ≡ 45) → IsSign (b ∷ [])
+exponent_sign (inl e) = subst (λ b. IsSign (b ∷ [])) (sym e) sign_plus
+exponent_sign (inr e) = subst (λ b. IsSign (b ∷ [])) (sym e) sign_minus
 
 -- one more digit at the end
 snoc : {ds : List ℕ} {d : ℕ} → Digits ds → IsDigit d → Digits (ds ++ d ∷ [])
@@ -240,7 +240,7 @@ grow_lead b t o e =
     (move_lead b t e)
 
 grow_mark : {xs m i f : List ℕ} (b : ℕ) (t : State) → Optional IsMinus m → IsInt i → Optional IsFrac f → xs ≡ m ++ (i ++ f) → marked b ≡ Some t → Derived t (xs ++ b ∷ [])
-grow_mark b t o i f q e = let p = move_mark b t e in rw p.1 (at_exp o i f (is_mark_lem p.0) (ap (λ l. l ++ b ∷ []) q ∙ simp append_assoc))
+grow_mark b t o i f q e = let p = move_mark b t e in rw p.1 (at_exp o i f (exponent_mark p.0) (ap (λ l. l ++ b ∷ []) q ∙ simp append_assoc))
 
 grow_zero : {xs m i : List ℕ} (b : ℕ) (t : State) → Optional IsMinus m → IsInt i → xs ≡ m ++ i → next Zero b ≡ Some t → Derived t (xs ++ b ∷ [])
 grow_zero {xs} {m} {i} b t o n q e =
@@ -272,7 +272,7 @@ grow b t (at_frac o i h r q) e =
 grow b t (at_exp o i f a q) e =
     ⊎_elim
     (λ p. rw p.1 (at_digits o i f a without p.0 none (ap (λ l. l ++ b ∷ []) q ∙ simp append_assoc) (cap_digit b p.0)))
-    (λ p. rw p.1 (at_sign o i f a (is_sign_lem p.0) (ap (λ l. l ++ b ∷ []) q ∙ simp append_assoc)))
+    (λ p. rw p.1 (at_sign o i f a (exponent_sign p.0) (ap (λ l. l ++ b ∷ []) q ∙ simp append_assoc)))
     (move_exp b t e)
 grow b t (at_sign o i f a s q) e = let p = move_sign b t e in rw p.1 (at_digits o i f a (with s) p.0 none (ap (λ l. l ++ b ∷ []) q ∙ simp append_assoc) (cap_digit b p.0))
 grow b t (at_digits {v} {ds = ds} {d = d} o i f a s h r q w) e = let p = move_power v b t e in rw p.1 (at_digits o i f a s h (snoc r p.0) (ap (λ l. l ++ b ∷ []) q ∙ simp append_assoc) (more_size v b d ds w))

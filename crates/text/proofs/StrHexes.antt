@@ -15,9 +15,6 @@ hex_same (hex4 a b c d) (hex4 e f g h) = (refl, refl)
 digits : {a b c d u : ℕ} {t r : List ℕ} → Hex4 (a ∷ b ∷ c ∷ d ∷ t) u r → (digit_value a < 16) × (digit_value b < 16) × (digit_value c < 16) × (digit_value d < 16)
 digits (hex4 p q s t) = (p, q, s, t)
 
-long : {xs r : List ℕ} {u : ℕ} → Hex4 xs u r → 4 ≤ length xs
-long (hex4 p q s t) = omega arith
-
 -- four digits at the front of a list
 four : (xs : List ℕ) → 4 ≤ length xs → xs ≡ get_or xs 0 0 ∷ get_or xs 1 0 ∷ get_or xs 2 0 ∷ get_or xs 3 0 ∷ drop 4 xs
 four xs h =
@@ -27,9 +24,6 @@ four xs h =
     ∙ ap (λ l. get_or xs 1 0 ∷ l)
     (drop_more xs 2 3 (omega arith) refl
     ∙ ap (λ l. get_or xs 2 0 ∷ l) (drop_more xs 3 4 (omega arith) refl)))
-
-pub too_short : (xs : List ℕ) → length xs < 4 → Nothing Hex4 xs 0
-too_short xs h y r x = omega (arith, long x)
 
 pub digit_fails : (xs : List ℕ) → 4 ≤ length xs
     → (digit_value (get_or xs 0 0) < 16 → digit_value (get_or xs 1 0) < 16 → digit_value (get_or xs 2 0) < 16 → digit_value (get_or xs 3 0) < 16 → ⊥) → Nothing Hex4 xs 0

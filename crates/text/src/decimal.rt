@@ -71,6 +71,7 @@ fn power(text: &[u8]) -> Option<i32>
         return Some(0);
     };
     let (negative, digits) = lead(rest);
+    // `as` here and below: the numbers fit, and `try_from` would add an error that cannot happen.
     let size = size(digits)? as i32;
     Some(if negative { -size } else { size })
 }
@@ -184,6 +185,7 @@ pub fn of_whole(text: &[u8]) -> (Scale, &[u8])
     ensures { OfWhole text.now result.0 result.1.now }
 {
     if text.len() > LONGEST_NUMBER {
+        // There is no error to give: a text over the limit is given back as it is.
         return (Scale::ZERO, text);
     }
     let (negative, digits) = sign(text);

@@ -1,4 +1,4 @@
-// The tokens of GraphQL.
+// The tokens of GraphQL. What their grammar shares with that of JSON stands in `token`.
 ghost use Rattle.std.specs.Prelude.{◌≡◌, ◌+◌, ◌<◌, ◌≤◌, length, IfOk, MatchBool, slice_index};
 ghost use Rattle.text.specs.Places.{Placed, is_end};
 ghost use Rattle.text.specs.StringGrammar.{LineTerminator};
@@ -133,6 +133,7 @@ fn numeral(text: &[u8], start: usize) -> Result<Lexeme<'_>, Fault>
 {
     let number = token::numeral(text, start)?;
     let end = number.end;
+    // Not `get` with `is_some_and`: the proof could not use what the closure finds of the byte.
     if end < text.len() && barred_after_number(text[end]) {
         return Err(Fault::BadText(start));
     }

@@ -22,7 +22,7 @@ fn six(text: &[u8], at: usize) -> Option<u32>
     }
 }
 
-// The character of two bytes at `at`, and where it ends.
+// The character of two bytes at `at`, and where it ends. Each length has bounds of its own, and so a function.
 fn two(text: &[u8], at: usize) -> Option<(char, usize)>
     requires { (at < length text.now) × (194 ≤ slice_index text.now at) × (slice_index text.now at < 224) }
     ensures { Told Utf8Char text.now at result }
@@ -186,6 +186,7 @@ pub fn scan(text: &[u8], at: usize, language: Language) -> Option<(usize, bool)>
 fn put(c: char, out: &mut Vec<u8>) -> Result<(), Fault>
     ensures { PutTold c out.old.items out.new.items result }
 {
+    // One byte, as most characters are, needs no buffer.
     if c < '\u{80}' {
         out.push(c as u8)?;
         return Ok(());

@@ -4,7 +4,6 @@ use Rattle.std.proofs.lemmas.List.{take_rest}
 use Rattle.std.proofs.lemmas.Result.{err_from_is_err_and}
 use Rattle.text.specs.NumberWorth.{after, Power, Writes}
 use Rattle.text.specs.NormalForm.{Powered, Within, Grown, Trimmed}
-use Rattle.text.proofs.NormCuts.{minus_shorter}
 use Rattle.text.proofs.NormSettle.{Aligned, aligned, amount_is, worth_is, Settled, settled, unadded, added_zero, added_some}
 use Rattle.text.proofs.decimal.normal.Goals.{After-split-parts, In_ok-power, After-truncate}
 use Rattle.text.proofs.decimal.normal.Goals as goal
@@ -35,16 +34,6 @@ place c =
     (subst (λ (l : List ℕ). Trimmed (drop c.len-base.result l) c.trimmed-kept.result.now) c.as_slice.ensures.value (subst (λ (l : List ℕ). Trimmed l c.trimmed-kept.result.now) (take_rest c.as_slice.result.now c.len-base.result) c.trimmed-kept.ensures))
     c.truncate.ensures.items
     (ap (λ (k : ℕ). k - c.len-base.result - length c.trimmed-kept.result.now) (c.len.ensures ∙ c.add-2.new.out.ok.0))
-
-pub returns-in_err-reserve : goal.returns-in_err-reserve
-returns-in_err-reserve c =
-    let p = err_from_is_err_and c.from_residual-in_err-reserve.result c.from_residual-in_err-reserve.ensures.1 in
-    let at = goal.at.returns-in_err-reserve c in
-    rw (p.1, p.2) (record {
-      kept = c.in_err-reserve.ensures.items;
-      full = omega (arith, c.in_err-reserve.ensures.full, c.args.out.now.ok.0, c.split-parts.ensures.within, minus_shorter c.args.text.now c.sign-negative.result.1.now c.sign-negative.result.0 c.sign-negative.ensures);
-      within = within at.In_ok-power (align at.After-split-parts);
-    })
 
 pub returns-in_err-push : goal.returns-in_err-push
 returns-in_err-push c =

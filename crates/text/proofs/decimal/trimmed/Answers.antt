@@ -1,9 +1,6 @@
 use Rattle.std.proofs.Common.{◌≡◌, ◌-◌, length, get_or, rules}
-use Rattle.text.proofs.NormValues.{trim_none, trim_more}
+use Rattle.text.proofs.NormValues.{trim_more}
 use Rattle.text.proofs.decimal.trimmed.Goals as goal
-
-pub loop-rest-init : goal.loop-rest-init
-loop-rest-init c = trim_none c.args.digits.now
 
 pub loop-rest-preserved : goal.loop-rest-preserved
 loop-rest-preserved c =

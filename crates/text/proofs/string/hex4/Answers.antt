@@ -1,12 +1,6 @@
 use Rattle.std.proofs.Common.{arith}
-use Rattle.text.proofs.StrHexes.{too_short, digit_fails, digits_stand}
+use Rattle.text.proofs.StrHexes.{digit_fails, digits_stand}
 use Rattle.text.proofs.string.hex4.Goals as goal
-
-pub returns-in_default : goal.returns-in_default
-returns-in_default c = too_short c.args.text.now c.in_default.len_below
-
-pub returns-in_err-a : goal.returns-in_err-a
-returns-in_err-a c = rw c.from_residual.ensures (digit_fails c.args.text.now c.in-len4-up.len_at_least (λ p q s t. omega (arith, c.in_err-a.ensures)))
 
 pub returns-in_err-b : goal.returns-in_err-b
 returns-in_err-b c = rw c.from_residual-in_err-b.ensures (digit_fails c.args.text.now c.in-len4-up.len_at_least (λ p q s t. omega (arith, c.in_err-b.ensures)))
