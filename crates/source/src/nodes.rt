@@ -9,18 +9,18 @@ use std::alloc::{AllocError, Global};
 use text::decimal::Scale;
 
 // A value; those inside it follow it in the table.
-// No enum: `Source` asks for kind, flag, scale and text apart, of any node.
+// No enum: `Source` asks for kind, flag, scale and text apart, of any node. A struct keeps the order of its fields: small ones first.
 #[derive(Clone, Copy, Debug)]
 pub struct Node {
     pub kind: Kind,
-    pub place: usize,
     pub flag: bool,
     pub scale: Scale,
+    pub place: usize,
+    // Counts the node and all below it.
+    pub size: usize,
     // Of a member's value.
     pub name: Option<Part>,
     pub text: Option<Part>,
-    // Counts the node and all below it.
-    pub size: usize,
 }
 
 // One table for a text: no value costs an allocation.
@@ -36,12 +36,12 @@ impl Node {
     // Stands for a node that is not there.
     pub const NOTHING: Node = Node {
         kind: Kind::Null,
-        place: 0,
         flag: false,
         scale: Scale::ZERO,
+        place: 0,
+        size: 0,
         name: None,
         text: None,
-        size: 0,
     };
 
     // A node with nothing below it yet.
