@@ -12,4 +12,4 @@ pub returns-in_err-node : goal.returns-in_err-node
 returns-in_err-node g c =
     let k = c.in_ok-lexeme.ensures in
     let p = err_from_is_err_and c.from_residual-in_err-node.result c.from_residual-in_err-node.ensures.1 in
-    rw (p.1, p.2) (blamed_none (manner_of g.W.Written.LANGUAGE c.args.self) c.args.self.text.now c.args.at _ k _ (c.in_err-node.ensures c.args.self.text.now k.lexed))
+    rw (p.1, p.2) (blamed_none (manner_of g.W.Written.LANGUAGE c.args.self) c.args.self.text.now c.args.at _ k _ (c.in_err-node.ensures k.lexed))

@@ -26,11 +26,11 @@ returns-in_err-name-clause-told g c ns h =
     let k = c.in_ok-lexeme.ensures in
     let p = err_from_is_err_and c.from_residual-in_err-name.result c.from_residual-in_err-name.ensures.1 in
     let P = NameFails (manner_of g.W.Written.LANGUAGE c.args.self) c.args.self.text.now ns c.args.at in
-    rw (p.1, p.2) (blames_map _ P (λ f e. subst P (sym e.0) (na_none k.seen e.1)) _ (c.in_err-name.ensures c.args.self.text.now k.lexed))
+    rw (p.1, p.2) (blames_map _ P (λ f e. subst P (sym e.0) (na_none k.seen e.1)) _ (c.in_err-name.ensures k.lexed))
 
 -- the name that the token is
 named : (g : Over) (c : In_ok-name g) → (n : Name) × (name_of g.W.Written.LANGUAGE c.in_ok-lexeme.ensures.lexed.token ≡ some n) × PartFor c.args.self.text.now (vec_items c.args.nodes.now.pool) (vec_items c.name_part.new.pool) n c.in_ok-name.name
-named g c = c.in_ok-name.ensures c.args.self.text.now c.in_ok-lexeme.ensures.lexed
+named g c = c.in_ok-name.ensures c.in_ok-lexeme.ensures.lexed
 
 pub returns-then-len-gt-LONGEST_NAME-clause-told : goal.returns-then-len-gt-LONGEST_NAME-clause-told
 returns-then-len-gt-LONGEST_NAME-clause-told g c ns h =
