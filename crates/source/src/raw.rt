@@ -135,8 +135,8 @@ pub trait Source: Sized {
 // The cursors of the values in a span.
 #[derive(Drop)]
 pub struct Values<'s, S> {
-    source: &'s S,
-    span: Span,
+    pub source: &'s S,
+    pub span: Span,
 }
 
 impl<S: Source> Iterator for Values<'_, S> {
