@@ -1,5 +1,5 @@
 -- Tokens, and the nodes of values that are one token.
-use Rattle.std.proofs.Common.{◌≡◌, ℕ, ◌+◌, ◌-◌, ◌≤◌, Bool, true, false, List, [], ◌∷◌, ◌++◌, length, take, drop, pos, IfOk, None, Ok, Err, Option, Result, sym, refl, ap, ◌∙◌, subst, ⊎_elim, append-nil, arith, length-append}
+use Rattle.std.proofs.Common.{◌≡◌, ℕ, ◌+◌, ◌-◌, ◌≤◌, Bool, true, false, List, [], ◌∷◌, ◌++◌, length, take, drop, pos, IfOk, Some, None, Ok, Err, Option, Result, sym, refl, ap, ◌∙◌, subst, ⊎_elim, append-nil, arith, length-append}
 use Rattle.std.proofs.lemmas.Bool.{cases_Bool}
 use Rattle.std.proofs.lemmas.Int.{ints}
 use Rattle.std.proofs.lemmas.List.{drop_at, drop-drop, take_all}
@@ -53,6 +53,13 @@ node_for text before after k s name m f sc p t e ek es ef en ex fits is added gr
   more = added;
   grown = grown;
 }
+
+-- the same, of a value that has a text and neither a flag nor a scale
+pub text_node : (text before after : List ℕ) (k : Kind) (s : ℕ) (name : Option Part) (m : Node) (p : Part) (t : Raw) → m ≡ headed k s name → k ≡ kind_of t → s ≡ place_of t → false ≡ flag_of t → false ≡ negative_of t → pos 0 ≡ exponent_of t
+    → PartFits text after p → bytes_of text after p ≡ text_of t → (added : List ℕ) → after ≡ before ++ added
+    → NodeFor text before after name t (record { kind = m.kind; place = m.place; flag = m.flag; scale = m.scale; name = m.name; text = Some p; size = m.size })
+text_node text before after k s name m p t e ek es ef en ex =
+    node_for text before after k s name m m.flag m.scale (Some p) t e ek es (ap (λ (n : Node). n.flag) e ∙ ef) (ap (λ (n : Node). n.scale.negative) e ∙ en) (ap (λ (n : Node). n.scale.exponent) e ∙ ex)
 
 -- the same, of a value without a text
 pub bare_node : (text pool : List ℕ) (k : Kind) (s : ℕ) (name : Option Part) (m : Node) (f : Bool) (t : Raw) → m ≡ headed k s name → k ≡ kind_of t → s ≡ place_of t → f ≡ flag_of t → false ≡ negative_of t → pos 0 ≡ exponent_of t → [] ≡ text_of t

@@ -1,6 +1,6 @@
-use Rattle.std.proofs.Common.{[], drop, Some, refl, ap, ◌∙◌, subst}
+use Rattle.std.proofs.Common.{[], drop, refl, ap, ◌∙◌, subst}
 use lib.Utf8.{encodes}
-use Rattle.std.proofs.lemmas.Result.{err_from_is_err_and}
+use Rattle.reader.proofs.Faults.{handed_on}
 use Rattle.model.specs.Values.{list, object, variable, scalar, string, nil, end}
 use Rattle.source.specs.declared.nodes.Node.{Node}
 use Rattle.source.specs.declared.raw.Kind.TheVariants.{List as ListKind, Object, Variable, String}
@@ -11,7 +11,7 @@ use Rattle.text.specs.TokenGrammar.{Lexical, TokenOf}
 use Rattle.reader.specs.Grammar.{l_string}
 use Rattle.reader.specs.Reading.{starts_leaf, starts_list, starts_object, starts_variable}
 use Rattle.reader.proofs.RdSights.{token_numeral}
-use Rattle.reader.proofs.Leaves.{node_for, bare_node}
+use Rattle.reader.proofs.Leaves.{text_node, bare_node}
 use Rattle.reader.proofs.Beginning.{holds_as, start_node, leaf_start, leaf_told, no_memory, no_start}
 use Rattle.reader.proofs.reading.Reader.node_of.Goals as goal
 
@@ -24,8 +24,7 @@ decimal_node-requires g c =
 pub returns-in_err-text-in-Text : goal.returns-in_err-text-in-Text
 returns-in_err-text-in-Text g c k =
     let h = holds_as k (Text c.in-Text.raw c.in-Text.plain) c.in-Text.is in
-    let p = err_from_is_err_and c.from_residual.result c.from_residual.ensures.1 in
-    rw (p.1, p.2) (no_memory c.args.self.text.now [] [] c.args.name c.args.lexeme.start k.token _ (c.in_err-text-in-Text.ensures h.1.0 h.0 h.1.2))
+    rw (handed_on c.from_residual.result c.from_residual.ensures.1) (no_memory c.args.self.text.now [] [] c.args.name c.args.lexeme.start k.token _ (c.in_err-text-in-Text.ensures h.1.0 h.0 h.1.2))
 
 pub returns-in-OpenBracket : goal.returns-in-OpenBracket
 returns-in-OpenBracket g c k =
@@ -70,8 +69,7 @@ returns-in_ok-text-in-Text g c k =
     let s = c.args.lexeme.start in
     let n = c.new-in-Text.result in
     start_node h.1.1 (starts_leaf (l_string refl))
-    (node_for c.args.self.text.now _ _ String s c.args.name n n.flag n.scale (Some c.in_ok-text-in-Text.text) (scalar s (string (encodes h.1.0))) c.new-in-Text.ensures refl refl
-    (ap (λ (n : Node). n.flag) c.new-in-Text.ensures) (ap (λ (n : Node). n.scale.negative) c.new-in-Text.ensures) (ap (λ (n : Node). n.scale.exponent) c.new-in-Text.ensures)
+    (text_node c.args.self.text.now _ _ String s c.args.name n c.in_ok-text-in-Text.text (scalar s (string (encodes h.1.0))) c.new-in-Text.ensures refl refl refl refl refl
     p.fits p.is p.more p.grown)
 
 pub returns-in_default : goal.returns-in_default
