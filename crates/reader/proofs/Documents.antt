@@ -12,7 +12,7 @@ use Rattle.reader.proofs.RdSame.{same_all}
 use Rattle.reader.proofs.RdSound.{sound_all}
 use Rattle.reader.proofs.RdAgree.{agree_all, refuses_all}
 use Rattle.reader.proofs.RdLimits.{bounded_of, limits_of}
-use Rattle.reader.proofs.Growing.{blames_map}
+use Rattle.reader.proofs.Faults.{blames_map}
 
 one_fault : (language : Language) (text : List ℕ) (f g : Fault) → FirstFault language text f → FirstFault language text g → f ≡ g
 one_fault language text f g (too_long h e) (too_long k d) = e ∙ sym d

@@ -3,7 +3,6 @@ use Rattle.std.proofs.Common.{◌≡◌, ℕ, ◌+◌, ◌-◌, ◌<◌, ◌≤�
 use Rattle.std.proofs.lemmas.List.{take_all}
 use Rattle.model.specs.Values.{Name, Raw, Raws, Mems, list, object, nil, cons, end, mem}
 use Rattle.text.specs.declared.fault.Fault.{Fault}
-use Rattle.text.specs.declared.fault.Fault.TheVariants.{NoMemory}
 use Rattle.text.specs.TokenGrammar.{Lexical, a_mark, open_bracket, close_bracket, open_brace, close_brace}
 use Rattle.names.specs.declared.names.Link.{Link}
 use Rattle.names.specs.declared.part.Part.{Part}
@@ -17,7 +16,7 @@ use Rattle.reader.specs.Manner.{Manner}
 use Rattle.reader.specs.Grammar.{Leaf, l_null}
 use Rattle.reader.specs.Tokens.{Sight, sees, Sights}
 use Rattle.reader.specs.Reading.{got, fails, turn, done, again, sees_mark, NameAt, Reads, ReadsList, ReadsObject, r_list, r_object, rl_nil, rl_items, ReadsItems, ri_last, ri_more, ro_end, ro_members, ReadsMembers, rm_last, rm_more}
-use Rattle.reader.specs.Told.{Blames, Added, Told, Opened, ItemsAdded, MembersAdded, NameRead}
+use Rattle.reader.specs.Told.{Added, Told, Opened, ItemsAdded, MembersAdded, NameRead}
 use Rattle.reader.proofs.Tables.{Pushed, Pooled, Closed, pooled_keeps, pushed_keeps, pushed_long, pushed_node, closed_keeps, closed_here, closed_long, keeps_closed, says_sized, leaf_head}
 
 -- what is read at a place, with d levels left, comes to a fault: a value, a list or an object after its opening mark, a name
@@ -32,14 +31,6 @@ ObjectFails m text d i g = ReadsObject (Sights m.language text) m.language m.dis
 
 abbrev pub NameFails : Manner → List ℕ → List Name → ℕ → Fault → Type 0
 NameFails m text ns i g = NameAt (Sights m.language text) m.language m.distinct ns i (fails g)
-
-pub blames_map : (P Q : Fault → Type 0) → ((g : Fault) → P g → Q g) → (f : Fault) → Blames f P → Blames f Q
-blames_map P Q h NoMemory p = tt
-blames_map P Q h _ p = h _ p
-
-pub blames_all : (P : Fault → Type 0) (f : Fault) → P f → Blames f P
-blames_all P NoMemory p = tt
-blames_all P _ p = p
 
 -- the items from i to here are read, and their nodes stand after those of T;
 -- what the items from here on come to, the items from i on do

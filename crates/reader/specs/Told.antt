@@ -1,5 +1,6 @@
 -- What the functions of the reader promise.
 use Rattle.std.specs.Prelude.{◌≡◌, ℕ, ◌-◌, ◌<◌, ◌≤◌, Bool, true, false, List, [], ◌∷◌, ◌++◌, length, take, drop, None, Ok, Err, Option, Result, vec_items}
+use Rattle.std.specs.declared.alloc.AllocError.{AllocError}
 use Rattle.std.specs.declared.ops.ControlFlow.{ControlFlow}
 use Rattle.std.specs.declared.ops.ControlFlow.TheVariants.{Continue, Break}
 use Rattle.std.proofs.Math.Option.{none, some}
@@ -196,13 +197,13 @@ MembersTold language r d i base before after (Ok j) = MembersAdded (manner_of la
 MembersTold language r d i base before after (Err f) = Blames f (λ g. ReadsObject (Sights language r.text.now) language r.distinct d i (fails g))
 
 -- a name that is new among those before it, or not
-abbrev pub NewTold : Bool → (text pool : List ℕ) → ℕ → (before after : List Link) → Part → Result Bool Fault → Type 0
+abbrev pub NewTold : Bool → (text pool : List ℕ) → ℕ → (before after : List Link) → Part → Result Bool AllocError → Type 0
 NewTold distinct text pool base before after name (Ok true) = (ns : List Name) → base ≤ length before → PartFits text pool name → NamesHeld distinct text pool before base ns → (repeats distinct ns (bytes_of text pool name) ≡ false) × NamesHeld distinct text pool after base (ns ++ bytes_of text pool name ∷ []) × (take base after ≡ take base before) × (base ≤ length after)
 NewTold distinct text pool base before after name (Ok false) = (ns : List Name) → PartFits text pool name → NamesHeld distinct text pool before base ns → repeats distinct ns (bytes_of text pool name) ≡ true
-NewTold distinct text pool base before after name (Err f) = f ≡ NoMemory
+NewTold distinct text pool base before after name (Err e) = Unit {0}
 
 -- the same of a reader, by the names before and after
-abbrev pub RegisterTold : {W : Type 0} → Reader W → ℕ → List ℕ → Part → (before after : Names) → Result Bool Fault → Type 0
+abbrev pub RegisterTold : {W : Type 0} → Reader W → ℕ → List ℕ → Part → (before after : Names) → Result Bool AllocError → Type 0
 RegisterTold r base pool name before after result = NewTold r.distinct r.text.now pool base (vec_items before.links) (vec_items after.links) name result
 
 -- the part of the text or of the pool that is a name, or that the token is none

@@ -19,6 +19,7 @@ use text::token::{Lexeme, Token};
 use text::{decimal, graphql, json, string};
 
 // A name from `start` to `end`: null, a boolean or an enum value.
+// It compares, since the facts of a match on byte strings have no names that a proof could cite.
 fn word_content(word: &[u8], start: usize, end: usize) -> Content
     ensures { (text pool : List ℕ) → start ≤ end → end ≤ length text → word.now ≡ cut_out text start end → LeafContent text pool pool start (a_name word.now) result }
 {
@@ -56,7 +57,7 @@ fn decimal_content(spelled: &[u8], pool: &mut Vec<u8>) -> Result<Content, Fault>
 }
 
 impl<'a, W: Written> Reader<'a, W> {
-    // The first token at or after `at`.
+    // The first token at or after `at`. The two grammars differ in all that they read, not in a constant.
     pub(crate) fn token(self, at: usize) -> Result<Lexeme<'a>, Fault>
         ensures { LookTold W.LANGUAGE self.entry.text.now at result }
     {
@@ -76,7 +77,7 @@ impl<'a, W: Written> Reader<'a, W> {
         pool: &mut Vec<u8>,
     ) -> Result<Part, Fault>
         requires { lexeme.start + 1 < lexeme.end }
-        ensures { (text cs : List ℕ) → raw.now ≡ cut_out text (lexeme.entry.start + 1) (lexeme.entry.end - 1) → Writes W.LANGUAGE text (lexeme.entry.start + 1) lexeme.entry.end plain cs → PartTold text pool.old.items pool.new.items (encodes cs) result }
+        ensures { (cs : List ℕ) → raw.now ≡ cut_out self.entry.text.now (lexeme.entry.start + 1) (lexeme.entry.end - 1) → Writes W.LANGUAGE self.entry.text.now (lexeme.entry.start + 1) lexeme.entry.end plain cs → PartTold self.entry.text.now pool.old.items pool.new.items (encodes cs) result }
     {
         if plain {
             return Ok(Part::Text {
@@ -94,8 +95,8 @@ impl<'a, W: Written> Reader<'a, W> {
 
     // What the value that begins with the token says of itself.
     fn content_of(self, lexeme: Lexeme<'_>, pool: &mut Vec<u8>) -> Result<Content, Fault>
-        requires { (text : List ℕ) × Lexed W.LANGUAGE text lexeme }
-        ensures { (text : List ℕ) (k : Lexed W.LANGUAGE text lexeme.entry) → StartTold text pool.old.items pool.new.items lexeme.entry.start k.token result }
+        requires { Lexed W.LANGUAGE self.text.now lexeme }
+        ensures { (k : Lexed W.LANGUAGE self.entry.text.now lexeme.entry) → StartTold self.entry.text.now pool.old.items pool.new.items lexeme.entry.start k.token result }
     {
         let Lexeme { token, start, end } = lexeme;
         match token {

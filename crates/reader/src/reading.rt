@@ -2,7 +2,7 @@
 use source::limits::DEEPEST;
 use std::marker::PhantomData;
 
-// Reads the values of a text in W.
+// Reads the values of a text in W. It has no place of its own: where a value ends is what its functions answer.
 #[derive_where(Clone, Copy)]
 pub(crate) struct Reader<'a, W> {
     pub text: &'a [u8],

@@ -1,5 +1,5 @@
 // The readers of values, lists and objects, which read one another's values.
-ghost use Rattle.std.specs.Prelude.{◌≡◌, ℕ, ◌<◌, ◌≤◌, List as Listing, [], length};
+ghost use Rattle.std.specs.Prelude.{◌≡◌, ℕ, ◌<◌, ◌≤◌, [], length};
 ghost use Rattle.model.specs.Values.{list as list_of, object as object_of, variable as variable_of, nil, end as no_members};
 ghost use Rattle.text.specs.TokenFound.{v_mark, view_of};
 ghost use Rattle.text.specs.TokenGrammar.{Mark, open_bracket, open_brace, dollar};
@@ -11,11 +11,15 @@ use names::part::{Holder, Part};
 use source::limits::LONGEST_NAME;
 use source::nodes::{Content, Node, Nodes};
 use source::value::Written;
+use std::alloc::AllocError;
 use std::ops::ControlFlow;
 use text::fault::Fault;
 use text::language::Language;
 use text::token::{Lexeme, Token};
 
+// Places stand in these contracts, since where a value begins and ends is what they say: so each that begins at a place
+// asks that the place is one of the text. Lists and objects have functions of their own: only members have names, and
+// only objects hold names against each other.
 impl<W: Written> Reader<'_, W> {
     // How it goes on after a value that ends at `at`.
     fn step(self, at: usize, closing: Token<'_>) -> Result<ControlFlow<usize, usize>, Fault>
@@ -35,8 +39,8 @@ impl<W: Written> Reader<'_, W> {
 
     // The part of the text or the pool that is a member's name, if the token is one.
     fn name_part(self, lexeme: Lexeme<'_>, pool: &mut Vec<u8>) -> Result<Part, Fault>
-        requires { (text : Listing ℕ) × Lexed W.LANGUAGE text lexeme }
-        ensures { (text : Listing ℕ) (k : Lexed W.LANGUAGE text lexeme.entry) → NamePartTold W.LANGUAGE text pool.old.items pool.new.items lexeme.entry.start k.token result }
+        requires { Lexed W.LANGUAGE self.text.now lexeme }
+        ensures { (k : Lexed W.LANGUAGE self.entry.text.now lexeme.entry) → NamePartTold W.LANGUAGE self.entry.text.now pool.old.items pool.new.items lexeme.entry.start k.token result }
     {
         match (W::LANGUAGE, lexeme.token) {
             (Language::Json, Token::Text { raw, plain }) => self.string_part(
@@ -57,21 +61,17 @@ impl<W: Written> Reader<'_, W> {
         base: usize,
         pool: &[u8],
         name: Part,
-    ) -> Result<bool, Fault>
+    ) -> Result<bool, AllocError>
         ensures { RegisterTold self.entry base pool.now name names.old names.new result }
     {
-        if self.distinct {
-            Ok(names.add(
-                base,
-                Holder {
-                    text: self.text,
-                    pool,
-                },
-                name,
-            )?)
-        } else {
-            Ok(true)
+        if !self.distinct {
+            return Ok(true);
         }
+        let holder = Holder {
+            text: self.text,
+            pool,
+        };
+        names.add(base, holder, name)
     }
 
     // The name of a member, and where the colon after it ends. The names before it in the object are those from `base` on.
@@ -168,6 +168,7 @@ impl<W: Written> Reader<'_, W> {
             return Ok(first.end);
         }
         let mut next = at;
+        // A turn moves by what was read, and may fail or end.
         loop {
             let end = self.value(next, levels, None, nodes)?;
             match self.step(end, Token::CloseBracket)? {
@@ -211,6 +212,7 @@ impl<W: Written> Reader<'_, W> {
             return Ok(first.end);
         }
         let mut next = at;
+        // A turn moves by what was read, and may fail or end.
         loop {
             let (name, onward) = self.member_name(next, base, nodes)?;
             let end = self.value(onward, levels, Some(name), nodes)?;

@@ -2,14 +2,14 @@ use Rattle.std.proofs.Common.{◌≡◌, ◌≤◌, ◌∙◌, false, List, [], 
 use Rattle.std.proofs.Math.Option.{some}
 use Rattle.model.specs.Values.{Name}
 use Rattle.std.proofs.lemmas.Bool.{not-true, not-false}
-use Rattle.std.proofs.lemmas.Result.{err_from_is_err_and}
+use Rattle.reader.proofs.Faults.{handed_on, blames_all, blames_map}
 use Rattle.text.specs.declared.token.Token.TheVariants.{Colon}
 use Rattle.text.specs.TokenGrammar.{colon}
 use Rattle.reader.specs.Tokens.{Sight, Sights, sees, blind}
 use Rattle.reader.specs.Grammar.{name_of}
 use Rattle.reader.specs.Told.{PartFor, NamesHeld, manner_of}
 use Rattle.reader.specs.Reading.{Out, NameAt, repeats, colon_after, na_blind, na_none, na_long, na_repeated, na_name}
-use Rattle.reader.proofs.Growing.{NameFails, blames_all, blames_map}
+use Rattle.reader.proofs.Growing.{NameFails}
 use Rattle.reader.proofs.Naming.{part_length, name_fresh, name_known, colon_there, colon_lacks}
 use Rattle.reader.proofs.TokenKinds.{marked, unmarked, mark_some}
 use Rattle.reader.proofs.reading.Reader.member_name.Given.{Over}
@@ -18,19 +18,17 @@ use Rattle.reader.proofs.reading.Reader.member_name.Goals.{In_ok-name, Else-len-
 
 pub returns-in_err-lexeme-clause-told : goal.returns-in_err-lexeme-clause-told
 returns-in_err-lexeme-clause-told g c ns h =
-    let p = err_from_is_err_and c.from_residual.result c.from_residual.ensures.1 in
-    rw (p.1, p.2) (blames_all (NameFails (manner_of g.W.Written.LANGUAGE c.args.self) c.args.self.text.now ns c.args.at) _ (na_blind c.in_err-lexeme.ensures))
+    rw (handed_on c.from_residual.result c.from_residual.ensures.1) (blames_all (NameFails (manner_of g.W.Written.LANGUAGE c.args.self) c.args.self.text.now ns c.args.at) _ (na_blind c.in_err-lexeme.ensures))
 
 pub returns-in_err-name-clause-told : goal.returns-in_err-name-clause-told
 returns-in_err-name-clause-told g c ns h =
     let k = c.in_ok-lexeme.ensures in
-    let p = err_from_is_err_and c.from_residual-in_err-name.result c.from_residual-in_err-name.ensures.1 in
     let P = NameFails (manner_of g.W.Written.LANGUAGE c.args.self) c.args.self.text.now ns c.args.at in
-    rw (p.1, p.2) (blames_map _ P (λ f e. subst P (sym e.0) (na_none k.seen e.1)) _ (c.in_err-name.ensures c.args.self.text.now k.lexed))
+    rw (handed_on c.from_residual-in_err-name.result c.from_residual-in_err-name.ensures.1) (blames_map _ P (λ f e. subst P (sym e.0) (na_none k.seen e.1)) _ (c.in_err-name.ensures k.lexed))
 
 -- the name that the token is
 named : (g : Over) (c : In_ok-name g) → (n : Name) × (name_of g.W.Written.LANGUAGE c.in_ok-lexeme.ensures.lexed.token ≡ some n) × PartFor c.args.self.text.now (vec_items c.args.nodes.now.pool) (vec_items c.name_part.new.pool) n c.in_ok-name.name
-named g c = c.in_ok-name.ensures c.args.self.text.now c.in_ok-lexeme.ensures.lexed
+named g c = c.in_ok-name.ensures c.in_ok-lexeme.ensures.lexed
 
 pub returns-then-len-gt-LONGEST_NAME-clause-told : goal.returns-then-len-gt-LONGEST_NAME-clause-told
 returns-then-len-gt-LONGEST_NAME-clause-told g c ns h =
@@ -62,8 +60,7 @@ module _ (g : Over) (c : Else-not-branch g) (ns : List Name) (h : NamesHeld c.ar
 
 pub returns-in_err-colon-clause-told : goal.returns-in_err-colon-clause-told
 returns-in_err-colon-clause-told g c ns h =
-    let p = err_from_is_err_and c.from_residual-in_err-colon.result c.from_residual-in_err-colon.ensures.1 in
-    rw (p.1, p.2)
+    rw (handed_on c.from_residual-in_err-colon.result c.from_residual-in_err-colon.ensures.1)
     (blames_all (NameFails (manner_of g.W.Written.LANGUAGE c.args.self) c.args.self.text.now ns c.args.at) _
     (seen_after g (goal.at.returns-in_err-colon-clause-told g c).Else-not-branch ns h (blind c.in_err-colon.field-0.0) c.in_err-colon.ensures refl))
 

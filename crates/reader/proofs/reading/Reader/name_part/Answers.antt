@@ -16,6 +16,6 @@ named language text before after cs start x (Ok p) e f t = (encodes cs, ap (λ l
 named language text before after cs start x (Err f) e g t = subst (λ (h : Fault). NamePartTold language text before after start x (Err h)) (sym t) tt
 
 pub returns-in-Json-Text : goal.returns-in-Json-Text
-returns-in-Json-Text g c text k =
+returns-in-Json-Text g c k =
     let h = holds_as k (Text c.in-Json-Text.raw c.in-Json-Text.plain) c.in-Json-Text.is-1 in
-    named g.W.Written.LANGUAGE text _ _ h.1.0 c.args.lexeme.start k.token c.string_part.result (sym c.LANGUAGE.ensures ∙ c.in-Json-Text.is-0) h.1.1 (c.string_part.ensures text h.1.0 h.0 h.1.2)
+    named g.W.Written.LANGUAGE c.args.self.text.now _ _ h.1.0 c.args.lexeme.start k.token c.string_part.result (sym c.LANGUAGE.ensures ∙ c.in-Json-Text.is-0) h.1.1 (c.string_part.ensures h.1.0 h.0 h.1.2)

@@ -1,5 +1,5 @@
 use Rattle.std.proofs.Common.{vec_items, sym, refl, ap, ◌∙◌, arith}
-use Rattle.std.proofs.lemmas.Result.{err_from_is_err_and}
+use Rattle.reader.proofs.Faults.{handed_on, blames_all}
 use Rattle.model.specs.Values.{variable}
 use Rattle.names.specs.declared.names.Names.{Names}
 use Rattle.names.specs.declared.part.Part.TheVariants.{Text}
@@ -11,15 +11,14 @@ use Rattle.text.specs.TokenGrammar.{Lexical}
 use Rattle.reader.specs.Tokens.{sees, blind}
 use Rattle.reader.specs.Reading.{as_variable, fails, Reads, r_variable}
 use Rattle.reader.proofs.Beginning.{holds_as}
-use Rattle.reader.proofs.Growing.{blames_all, leaf_added}
+use Rattle.reader.proofs.Growing.{leaf_added}
 use Rattle.reader.proofs.Tables.{Pushed, pushed_node, leaf_head}
 use Rattle.reader.proofs.TokenKinds.{no_variable}
 use Rattle.reader.proofs.reading.Reader.variable.Goals as goal
 
 pub returns-in_err-lexeme : goal.returns-in_err-lexeme
 returns-in_err-lexeme g c d room i name o =
-    let p = err_from_is_err_and c.from_residual.result c.from_residual.ensures.1 in
-    rw (p.1, p.2) (blames_all (λ f. Reads _ _ _ d i (fails f)) _ (r_variable {v = blind c.in_err-lexeme.field-0.0} o.seen room c.in_err-lexeme.ensures refl))
+    rw (handed_on c.from_residual.result c.from_residual.ensures.1) (blames_all (λ f. Reads _ _ _ d i (fails f)) _ (r_variable {v = blind c.in_err-lexeme.field-0.0} o.seen room c.in_err-lexeme.ensures refl))
 
 pub returns-in_default : goal.returns-in_default
 returns-in_default g c d room i name o =
