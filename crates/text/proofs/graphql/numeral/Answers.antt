@@ -1,5 +1,5 @@
 use Rattle.std.proofs.Common.{rules, ◌<◌, length, get_or, sym, subst}
-use Rattle.std.proofs.lemmas.Result.{err_from_is_err_and}
+use Rattle.text.proofs.Handed.{handed_on}
 use Rattle.text.specs.TokenGrammar.{NumberGoesOn}
 use Rattle.text.specs.declared.language.Language.TheVariants.{Graphql}
 use Rattle.text.proofs.LexNumber.{scan_refused}
@@ -10,8 +10,7 @@ use Rattle.text.proofs.graphql.numeral.Goals as goal
 
 pub returns-in_err-number : goal.returns-in_err-number
 returns-in_err-number c =
-    let p = err_from_is_err_and c.from_residual.result c.from_residual.ensures.1 in
-    rw (p.1, p.2)
+    rw (handed_on c.from_residual.ensures.1)
     (record {
       found = scan_refused Graphql c.args.text.now c.args.start (no_number c.args.text.now c.args.start c.requires.0 c.requires.1) _ c.in_err-number.ensures;
       placed = tt;
