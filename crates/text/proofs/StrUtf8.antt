@@ -1,6 +1,7 @@
 -- One character of UTF-8.
-use Rattle.std.proofs.Common.{◌≡◌, ℕ, ◌+◌, ◌-◌, ◌<◌, ◌≤◌, List, [], ◌∷◌, ◌++◌, length, get_or, drop, Some, None, sym, ap, ◌∙◌, add-one, arith, drop-cons, length-drop, drop-drop}
-use lib.Utf8.{encode}
+use Rattle.std.proofs.Common.{refl, ◌≡◌, ℕ, ◌+◌, ◌-◌, ◌<◌, ◌≤◌, List, [], ◌∷◌, ◌++◌, length, get_or, drop, Some, None, sym, ap, ◌∙◌, add-one, arith, drop-cons, length-drop, drop-drop}
+use lib.Utf8.{encode, low_scalar}
+use Rattle.std.proofs.lemmas.Bool.Decides.{nat_tests}
 use Rattle.std.proofs.lemmas.Str.{encode_same}
 use Rattle.bstr.specs.Utf8.{Decoded, decoded}
 use Rattle.bstr.proofs.lemmas.EncodeLemmas.{decoded-encode}
@@ -14,6 +15,22 @@ drop_more text i j h e = drop-cons text i 0 h ∙ ap (λ k. get_or text i 0 ∷ 
 
 pub utf8_same : {xs r t : List ℕ} {c d : ℕ} → Utf8Char xs c r → Utf8Char xs d t → (c ≡ d) × (r ≡ t)
 utf8_same {r = r} {t} {c} {d} (utf8 p e) (utf8 q f) = encode_same c d r t (sym e ∙ f)
+
+encode_one : (c : ℕ) → c < 128 → encode c ≡ c ∷ []
+unfolding encode
+encode_one c h = grind (arith, nat_tests)
+
+pub utf8_one : (text : List ℕ) (at : ℕ) → at < length text → get_or text at 0 < 128 → Exactly Utf8Char text at (get_or text at 0) (at + 1)
+utf8_one text at l h =
+    let x = get_or text at 0 in
+    let u : Utf8Char (drop at text) x (drop (at + 1) text)
+    = utf8 (low_scalar x (omega arith)) (drop_more text at (at + 1) l refl ∙ ap (λ p. p ++ drop (at + 1) text) (sym (encode_one x h))) in
+    record {
+      forward = omega arith;
+      within = omega arith;
+      reads = u;
+      only = λ y r z. utf8_same u z;
+    }
 
 -- a character decodes
 utf8_decoded : {xs r : List ℕ} {c : ℕ} → Utf8Char xs c r → (decoded xs).char ≡ Some c

@@ -17,8 +17,14 @@ const LAST_LOW: u32 = 0xDFFF;
 pub fn character(text: &[u8], at: usize) -> Option<(char, usize)>
     ensures { Told Utf8Char text.now at result }
 {
-    let (c, size) = decode_utf8(text.get(at..)?);
-    Some((c?, at + size))
+    match *text.get(at)? {
+        // One byte, as most characters are, is quicker so.
+        byte @ 0..0x80 => Some((char::from(byte), at + 1)),
+        _ => {
+            let (c, size) = decode_utf8(&text[at..]);
+            Some((c?, at + size))
+        }
+    }
 }
 
 // The value of a hexadecimal digit; `to_digit` is of a `char`.

@@ -2,6 +2,9 @@ use Rattle.std.proofs.Common.{arith}
 use Rattle.text.proofs.StrHexes.{digit_fails, digits_stand}
 use Rattle.text.proofs.string.hex4.Goals as goal
 
+pub returns-in_err-a-2 : goal.returns-in_err-a-2
+returns-in_err-a-2 c = rw c.from_residual-in_err-a-2.ensures (digit_fails c.in_ok-a.ensures.cases (λ p q s t. omega (arith, c.in_err-a-2.ensures)))
+
 pub returns-in_err-b : goal.returns-in_err-b
 returns-in_err-b c = rw c.from_residual-in_err-b.ensures (digit_fails c.in_ok-a.ensures.cases (λ p q s t. omega (arith, c.in_err-b.ensures)))
 
