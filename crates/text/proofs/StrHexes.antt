@@ -1,5 +1,6 @@
 -- Four hexadecimal digits, and a low surrogate.
-use Rattle.std.proofs.Common.{◌≡◌, ℕ, ◌+◌, ◌*◌, ◌<◌, ◌≤◌, Bool, true, false, List, ◌∷◌, length, get_or, drop, sym, refl, ap, ◌∙◌, subst, arith, length-drop}
+use Rattle.std.proofs.Common.{◌≡◌, ℕ, ◌+◌, ◌*◌, ◌<◌, Bool, true, false, List, ◌∷◌, length, get_or, drop, sym, refl, ap, ◌∙◌, subst, arith, length-drop}
+use Rattle.std.specs.Array.{IsFirstChunk}
 use Rattle.std.specs.Char.{digit_value}
 use Rattle.std.specs.Bool.{then_some}
 use Rattle.std.specs.Int.{IsInRange, is_in_range}
@@ -15,34 +16,43 @@ hex_same (hex4 a b c d) (hex4 e f g h) = (refl, refl)
 digits : {a b c d u : ℕ} {t r : List ℕ} → Hex4 (a ∷ b ∷ c ∷ d ∷ t) u r → (digit_value a < 16) × (digit_value b < 16) × (digit_value c < 16) × (digit_value d < 16)
 digits (hex4 p q s t) = (p, q, s, t)
 
--- four digits at the front of a list
-four : (xs : List ℕ) → 4 ≤ length xs → xs ≡ get_or xs 0 0 ∷ get_or xs 1 0 ∷ get_or xs 2 0 ∷ get_or xs 3 0 ∷ drop 4 xs
-four xs h =
-    drop_more xs 0 1 (omega arith) refl
-    ∙ ap (λ l. get_or xs 0 0 ∷ l)
-    (drop_more xs 1 2 (omega arith) refl
-    ∙ ap (λ l. get_or xs 1 0 ∷ l)
-    (drop_more xs 2 3 (omega arith) refl
-    ∙ ap (λ l. get_or xs 2 0 ∷ l) (drop_more xs 3 4 (omega arith) refl)))
+-- where ys are the four bytes at the front of xs
+module _ {xs ys : List ℕ} (f : IsFirstChunk xs ys 4) where
+  four : xs ≡ get_or ys 0 0 ∷ get_or ys 1 0 ∷ get_or ys 2 0 ∷ get_or ys 3 0 ∷ drop 4 xs
+  four =
+      let a = f.each in
+      let b = a.5 in
+      let c = b.5 in
+      let d = c.5 in
+      let p : get_or ys 0 0 ≡ get_or xs 0 0 = a.3.1 0 ∙ a.4 ∙ sym (a.2.1 0) in
+      let q : get_or ys 1 0 ≡ get_or xs 1 0 = b.3.1 0 ∙ b.4 ∙ sym (b.2.1 0) in
+      let s : get_or ys 2 0 ≡ get_or xs 2 0 = c.3.1 0 ∙ c.4 ∙ sym (c.2.1 0) in
+      let t : get_or ys 3 0 ≡ get_or xs 3 0 = d.3.1 0 ∙ d.4 ∙ sym (d.2.1 0) in
+      rw (p, q, s, t)
+      (drop_more xs 0 1 (omega (arith, f.enough)) refl
+      ∙ ap (λ l. get_or xs 0 0 ∷ l)
+      (drop_more xs 1 2 (omega (arith, f.enough)) refl
+      ∙ ap (λ l. get_or xs 1 0 ∷ l)
+      (drop_more xs 2 3 (omega (arith, f.enough)) refl
+      ∙ ap (λ l. get_or xs 2 0 ∷ l) (drop_more xs 3 4 (omega (arith, f.enough)) refl))))
 
-pub digit_fails : (xs : List ℕ) → 4 ≤ length xs
-    → (digit_value (get_or xs 0 0) < 16 → digit_value (get_or xs 1 0) < 16 → digit_value (get_or xs 2 0) < 16 → digit_value (get_or xs 3 0) < 16 → ⊥) → Nothing Hex4 xs 0
-digit_fails xs h n y r x = let d = digits (subst (λ l. Hex4 l y r) (four xs h) x) in n d.0 d.1 d.2 d.3
+  pub digit_fails : (digit_value (get_or ys 0 0) < 16 → digit_value (get_or ys 1 0) < 16 → digit_value (get_or ys 2 0) < 16 → digit_value (get_or ys 3 0) < 16 → ⊥) → Nothing Hex4 xs 0
+  digit_fails n y r x = let d = digits (subst (λ l. Hex4 l y r) four x) in n d.0 d.1 d.2 d.3
 
-pub digits_stand : (a b c d : ℕ) (xs : List ℕ) → 4 ≤ length xs
-    → a ≡ digit_value (get_or xs 0 0) → b ≡ digit_value (get_or xs 1 0) → c ≡ digit_value (get_or xs 2 0) → d ≡ digit_value (get_or xs 3 0)
-    → a < 16 → b < 16 → c < 16 → d < 16 → Exactly Hex4 xs 0 (((a * 16 + b) * 16 + c) * 16 + d) 4
-digits_stand a b c d xs h ea eb ec ed la lb lc ld =
-    let v : ((digit_value (get_or xs 0 0) * 16 + digit_value (get_or xs 1 0)) * 16 + digit_value (get_or xs 2 0)) * 16 + digit_value (get_or xs 3 0) ≡ ((a * 16 + b) * 16 + c) * 16 + d = omega arith in
-    let x : Hex4 xs (((a * 16 + b) * 16 + c) * 16 + d) (drop 4 xs)
-    = subst (λ l. Hex4 l (((a * 16 + b) * 16 + c) * 16 + d) (drop 4 xs)) (sym (four xs h))
-    (subst (λ u. Hex4 (get_or xs 0 0 ∷ get_or xs 1 0 ∷ get_or xs 2 0 ∷ get_or xs 3 0 ∷ drop 4 xs) u (drop 4 xs)) v (hex4 (omega arith) (omega arith) (omega arith) (omega arith))) in
-    record {
-      forward = omega arith;
-      within = h;
-      reads = x;
-      only = λ y r w. hex_same x w;
-    }
+  pub digits_stand : (a b c d : ℕ)
+      → a ≡ digit_value (get_or ys 0 0) → b ≡ digit_value (get_or ys 1 0) → c ≡ digit_value (get_or ys 2 0) → d ≡ digit_value (get_or ys 3 0)
+      → a < 16 → b < 16 → c < 16 → d < 16 → Exactly Hex4 xs 0 (((a * 16 + b) * 16 + c) * 16 + d) 4
+  digits_stand a b c d ea eb ec ed la lb lc ld =
+      let v : ((digit_value (get_or ys 0 0) * 16 + digit_value (get_or ys 1 0)) * 16 + digit_value (get_or ys 2 0)) * 16 + digit_value (get_or ys 3 0) ≡ ((a * 16 + b) * 16 + c) * 16 + d = omega arith in
+      let x : Hex4 xs (((a * 16 + b) * 16 + c) * 16 + d) (drop 4 xs)
+      = subst (λ l. Hex4 l (((a * 16 + b) * 16 + c) * 16 + d) (drop 4 xs)) (sym four)
+      (subst (λ u. Hex4 (get_or ys 0 0 ∷ get_or ys 1 0 ∷ get_or ys 2 0 ∷ get_or ys 3 0 ∷ drop 4 xs) u (drop 4 xs)) v (hex4 (omega arith) (omega arith) (omega arith) (omega arith))) in
+      record {
+        forward = omega arith;
+        within = f.enough;
+        reads = x;
+        only = λ y r w. hex_same x w;
+      }
 
 -- what stands at the front of a part stands in the text
 pub exactly_at : {X : Type 0} (R : List ℕ → X → List ℕ → Type 0) {xs : List ℕ} {x : X} {n : ℕ} (text : List ℕ) (at : ℕ) → xs ≡ drop at text → Exactly R xs 0 x n → Exactly R text at x (at + n)
@@ -87,6 +97,6 @@ module _ (text : List ℕ) {xs : List ℕ} (e : text ≡ 92 ∷ 117 ∷ xs) wher
       }
 
   -- four digits, kept where they are those of a low surrogate
-  pub low_kept : (u : ℕ) (b : Bool) → b ≡ is_in_range 56320 57343 u → Exactly Hex4 xs 0 u 4 → LowTold text 0 (then_some b u)
+  pub low_kept : (u : ℕ) (b : Bool) → b ≡ is_in_range 56320 57343 u → Exactly Hex4 xs 0 u 4 → LowTold text (then_some b u)
   low_kept u true e x = let i : IsInRange 56320 57343 u = (grind (arith, nat_tests), grind (arith, nat_tests)) in (low_stands x i, i)
   low_kept u false e x = λ y r l. let p = by_low l in let s = x.only y r p.0 in grind (arith, nat_tests)

@@ -53,13 +53,25 @@ fn size(digits: &[u8]) -> Option<u32>
     Some(value)
 }
 
+// Whether a minus stands at the front, and what follows it.
+fn sign(text: &[u8]) -> (bool, &[u8])
+    ensures { Signs text.now result.0 result.1.now }
+{
+    match text.strip_prefix(b"-") {
+        Some(rest) => (true, rest),
+        None => (false, text),
+    }
+}
+
 // The sign and the digits of an exponent, after its mark.
 fn lead(power: &[u8]) -> (bool, &[u8])
     ensures { Led power.now result.0 result.1.now }
 {
-    match power.strip_prefix(b"-") {
-        Some(digits) => (true, digits),
-        None => (false, power.strip_prefix(b"+").unwrap_or(power)),
+    let (negative, rest) = sign(power);
+    if negative {
+        (true, rest)
+    } else {
+        (false, rest.strip_prefix(b"+").unwrap_or(rest))
     }
 }
 
@@ -101,29 +113,15 @@ fn trimmed(digits: &[u8]) -> &[u8]
     rest
 }
 
-// Whether the number has a minus, and what follows it.
-fn sign(text: &[u8]) -> (bool, &[u8])
-    ensures { Signs text.now result.0 result.1.now }
-{
-    match text.strip_prefix(b"-") {
-        Some(rest) => (true, rest),
-        None => (false, text),
-    }
-}
-
 // The parts of the number, which has no minus.
 fn split(text: &[u8]) -> Parts<'_>
     ensures { Split text.now result }
 {
     let (whole, rest) = run(text);
-    let Some(fraction) = rest.strip_prefix(b".") else {
-        return Parts {
-            whole,
-            places: &[],
-            power: rest,
-        };
+    let (places, power) = match rest.strip_prefix(b".") {
+        Some(fraction) => run(fraction),
+        None => (&[][..], rest),
     };
-    let (places, power) = run(fraction);
     Parts {
         whole,
         places,
@@ -185,7 +183,7 @@ pub fn of_whole(text: &[u8]) -> (Scale, &[u8])
     ensures { OfWhole text.now result.0 result.1.now }
 {
     if text.len() > LONGEST_NUMBER {
-        // There is no error to give: a text over the limit is given back as it is.
+        // Every text has an answer: an Option would give callers, whose numbers are within the limit, a case that cannot come.
         return (Scale::ZERO, text);
     }
     let (negative, digits) = sign(text);

@@ -35,7 +35,10 @@ fn comment(text: &[u8], at: usize) -> Option<usize>
     ensures { StepTold Comment text.now at result }
 {
     let mut next = at + 1;
-    while next < text.len() && !ends_line(text[next]) {
+    // Not `run_len`: a character takes up to four bytes, and bytes may be no character.
+    while let Some(&byte) = text.get(next)
+        && !ends_line(byte)
+    {
         next = comment_char(text, next)?;
     }
     Some(next)
@@ -76,6 +79,7 @@ fn skip(text: &[u8], at: usize) -> usize
     ensures { Skipped Graphql text.now at result }
 {
     let mut next = at.min(text.len());
+    // Not `run_len`: a comment and a byte order mark take more than one byte.
     while let Some(end) = ignored(text, next) {
         next = end;
     }
@@ -133,8 +137,9 @@ fn numeral(text: &[u8], start: usize) -> Result<Lexeme<'_>, Fault>
 {
     let number = token::numeral(text, start)?;
     let end = number.end;
-    // Not `get` with `is_some_and`: the proof could not use what the closure finds of the byte.
-    if end < text.len() && barred_after_number(text[end]) {
+    if let Some(&byte) = text.get(end)
+        && barred_after_number(byte)
+    {
         return Err(Fault::BadText(start));
     }
     Ok(number)

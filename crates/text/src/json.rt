@@ -41,9 +41,9 @@ fn structural<'a>(byte: u8) -> Option<Token<'a>>
 
 // The literal name that begins at `start`, if it is `word`.
 fn literal<'a>(text: &[u8], start: usize, word: &'a [u8]) -> Result<Lexeme<'a>, Fault>
-    requires start_in_bounds { start < length text.now }
-    requires literal_name { LiteralName word.now }
-    requires start_value { slice_index text.now start ≡ slice_index word.now 0 }
+    requires within { start < length text.now }
+    requires word { LiteralName word.now }
+    requires first { slice_index text.now start ≡ slice_index word.now 0 }
     ensures { FoundHere Json text.now start result }
 {
     spelled(text, start, word, Token::Name(word))

@@ -1,7 +1,7 @@
 use Rattle.std.proofs.Common.{◌≡◌, ℕ, ◌-◌, ◌<◌, Bool, List, length, drop, ℤ, nat_abs, vec_items, sym, ap, ◌∙◌, subst, arith, w32, SFits, to_z, of_z, rules}
 use Rattle.std.proofs.lemmas.Int.{to_z-of_z}
 use Rattle.std.proofs.lemmas.List.{take_rest}
-use Rattle.std.proofs.lemmas.Result.{err_from_is_err_and}
+use Rattle.text.proofs.Handed.{handed_on}
 use Rattle.text.specs.NumberWorth.{after, Power, Writes}
 use Rattle.text.specs.NormalForm.{Powered, Within, Grown, Trimmed}
 use Rattle.text.proofs.NormSettle.{Aligned, aligned, amount_is, worth_is, Settled, settled, unadded, added_zero, added_some}
@@ -37,10 +37,9 @@ place c =
 
 pub returns-in_err-push : goal.returns-in_err-push
 returns-in_err-push c =
-    let p = err_from_is_err_and c.from_residual-in_err-push.result c.from_residual-in_err-push.ensures.1 in
     let at = goal.at.returns-in_err-push c in
     let start = unadded (vec_items c.args.out.now) (vec_items c.truncate.new.self) c.len-base.result (length c.trimmed-kept.result.now) _ _ (place at.After-truncate) c.if-kept-eq0.true in
-    rw (p.1, p.2) (record {
+    rw (handed_on c.from_residual-in_err-push.ensures.1) (record {
       kept = c.in_err-push.ensures.items ∙ start;
       full = omega (arith, c.in_err-push.ensures.full, c.truncate.new.self.ok.0, ap length start, c.truncate.ensures.capacity, c.add-2.ensures.room, c.add.ensures.room, c.in_ok-reserve.ensures.capacity);
       within = within at.In_ok-power (align at.After-split-parts);
