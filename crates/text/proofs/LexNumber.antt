@@ -161,7 +161,7 @@ outside b n = ⊎_elim (λ h. inl h) (λ h. ⊎_elim (λ g. inr g) (λ g. absurd
 pub stops_number : {ds r : List ℕ} {k : NumberKind} → Number ds k → NotAhead NumberGoesOn r → NotAhead (λ b. Begins (ds ++ b ∷ [])) r
 stops_number {ds} n q b t e g =
     let c = complete n in
-    refused ds b c.0 _ c.1
+    refused ds b c.0 c.1
     (dead c.2 b
     (λ x. q b t e (inr (inl x)))
     (λ x. q b t e (inr (inr (inr (inr (omega arith, omega arith))))))

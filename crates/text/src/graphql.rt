@@ -9,7 +9,7 @@ ghost use Rattle.text.specs.declared.language.Language.TheVariants.{Graphql};
 use crate::fault::Fault;
 use crate::language::Language;
 use crate::limits::LONGEST_NAME;
-use crate::run::run_end;
+use crate::run::run_len;
 use crate::token::{Lexeme, Token, begins_number};
 use crate::{string, token};
 
@@ -99,7 +99,8 @@ fn name_end(text: &[u8], start: usize) -> usize
     requires { start < length text.now }
     ensures { NameEnd text.now start result }
 {
-    run_end(text, start + 1, continues_name)
+    let from = start + 1;
+    from + run_len(&text[from..], continues_name)
 }
 
 // The name that begins at `start`.

@@ -7,7 +7,7 @@ ghost use Rattle.text.specs.declared.language.Language.TheVariants.{Json};
 
 use crate::fault::Fault;
 use crate::language::Language;
-use crate::run::run_end;
+use crate::run::run_len;
 use crate::token::{Lexeme, Token, begins_number, numeral, quoted, spelled};
 
 fn white_space(byte: u8) -> bool
@@ -20,7 +20,8 @@ fn white_space(byte: u8) -> bool
 fn skip(text: &[u8], at: usize) -> usize
     ensures { Skipped Json text.now at result }
 {
-    run_end(text, at.min(text.len()), white_space)
+    let from = at.min(text.len());
+    from + run_len(&text[from..], white_space)
 }
 
 // The structural character that a byte is.

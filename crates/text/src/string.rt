@@ -89,32 +89,30 @@ fn hex4(text: &[u8]) -> Option<u32>
     Some(((a * 16 + b) * 16 + c) * 16 + d)
 }
 
-// The low surrogate of the escape at `at`.
-fn low_surrogate(text: &[u8], at: usize) -> Option<u32>
-    requires { at ≤ length text.now }
-    ensures { LowTold text.now at result }
+// The low surrogate of the escape at the front.
+fn low_surrogate(text: &[u8]) -> Option<u32>
+    ensures { LowTold text.now 0 result }
 {
-    let digits = text[at..].strip_prefix(b"\\u")?;
+    let digits = text.strip_prefix(b"\\u")?;
     let low = hex4(digits)?;
     (FIRST_LOW..=LAST_LOW).contains(&low).then_some(low)
 }
 
-// The character whose digits follow `\u` at `at`, and where it ends.
-fn unicode(text: &[u8], at: usize) -> Option<(char, usize)>
-    requires { at ≤ length text.now }
-    ensures { Told Code text.now at result }
+// The character whose digits, after `\u`, stand at the front, and where it ends.
+fn unicode(text: &[u8]) -> Option<(char, usize)>
+    ensures { Told Code text.now 0 result }
 {
-    let high = hex4(&text[at..])?;
+    let high = hex4(text)?;
     if let Some(c) = char::from_u32(high) {
-        return Some((c, at + 4));
+        return Some((c, 4));
     }
     if high >= FIRST_LOW {
         return None;
     }
-    let low = low_surrogate(text, at + 4)?;
+    let low = low_surrogate(&text[4..])?;
     let code = 0x10000 + (high - 0xD800) * 0x400 + (low - FIRST_LOW);
     let c = char::from_u32(code)?;
-    Some((c, at + 10))
+    Some((c, 10))
 }
 
 // The character of the escape whose backslash stands before `at`, and where it ends.
@@ -130,7 +128,10 @@ fn escape(text: &[u8], at: usize) -> Option<(char, usize)>
         b'n' => Some(('\n', end)),
         b'r' => Some(('\r', end)),
         b't' => Some(('\t', end)),
-        b'u' => unicode(text, end),
+        b'u' => {
+            let (c, size) = unicode(&text[end..])?;
+            Some((c, end + size))
+        }
         _ => None,
     }
 }

@@ -1,17 +1,13 @@
-use Rattle.std.proofs.Common.{[], ◌∷◌, arith}
-use Rattle.text.proofs.LexBase.{begins, begins_not, begins_fits}
-use Rattle.text.proofs.NormValues.{led_minus, led_plus, led_other}
+use Rattle.std.proofs.Common.{[], ◌∷◌, None, Some}
+use Rattle.std.proofs.lemmas.Bool.Decides.{Decides-eqb}
+use Rattle.std.proofs.lemmas.Slice.Eq.{strip_prefix_is}
+use Rattle.text.proofs.NormValues.{led_minus, led_rest}
 use Rattle.text.proofs.decimal.lead.Goals as goal
 
-pub returns-then-starts_with : goal.returns-then-starts_with
-returns-then-starts_with c =
-    let m = begins c.args.text.now (45 ∷ []) c.args.at c.starts_with.ensures.value c.if-starts_with.true in
-    led_minus c.args.text.now c.args.at (omega (arith, begins_fits c.args.text.now (45 ∷ []) c.args.at (omega arith) m)) m
+pub returns-in-Some : goal.returns-in-Some
+returns-in-Some c = led_minus c.args.power.now c.in-Some.digits.now (strip_prefix_is Decides-eqb c.args.power.now (45 ∷ []) (Some c.in-Some.digits) c.in-Some.ensures.cases)
 
-pub returns-then-starts_with-2 : goal.returns-then-starts_with-2
-returns-then-starts_with-2 c =
-    let p = begins c.args.text.now (43 ∷ []) c.args.at c.starts_with-else-starts_with.ensures.value c.if-starts_with-2.true in
-    led_plus c.args.text.now c.args.at (omega (arith, begins_fits c.args.text.now (43 ∷ []) c.args.at (omega arith) p)) p
-
-pub returns-else-starts_with-2 : goal.returns-else-starts_with-2
-returns-else-starts_with-2 c = led_other c.args.text.now c.args.at c.requires (begins_not c.args.text.now (45 ∷ []) c.args.at c.starts_with.ensures.value c.if-starts_with.false) (begins_not c.args.text.now (43 ∷ []) c.args.at c.starts_with-else-starts_with.ensures.value c.if-starts_with-2.false)
+pub returns-in-None : goal.returns-in-None
+returns-in-None c =
+    rw c.unwrap_or.ensures (led_rest c.args.power (strip_prefix_is Decides-eqb c.args.power.now (45 ∷ []) None c.in-None.ensures.cases)
+    c.strip_prefix-in-None.result (strip_prefix_is Decides-eqb c.args.power.now (43 ∷ []) c.strip_prefix-in-None.result c.strip_prefix-in-None.ensures.cases))
