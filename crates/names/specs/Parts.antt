@@ -1,5 +1,5 @@
 -- Parts of a text and of a pool, and their bytes.
-use Rattle.std.specs.Prelude.{ℕ, ◌≤◌, List, length}
+use Rattle.std.specs.Prelude.{ℕ, ◌≤◌, List, [], length, Some, None, Option}
 use Rattle.text.specs.Cuts.{part}
 use Rattle.names.specs.declared.part.Part.{Part}
 use Rattle.names.specs.declared.part.Part.TheVariants.{Text, Pool}
@@ -25,3 +25,13 @@ PartFits text pool p = (start_of p ≤ end_of p) × (end_of p ≤ length (holder
 -- the bytes of a part
 abbrev pub bytes_of : List ℕ → List ℕ → Part → List ℕ
 bytes_of text pool p = part (holder text pool p) (start_of p) (end_of p)
+
+-- a part fits, if there is one
+abbrev pub MayFit : List ℕ → List ℕ → Option Part → Type 0
+MayFit text pool None = Unit {0}
+MayFit text pool (Some p) = PartFits text pool p
+
+-- the bytes of a part, if there is one, and else none
+abbrev pub bytes_if_any : List ℕ → List ℕ → Option Part → List ℕ
+bytes_if_any text pool None = []
+bytes_if_any text pool (Some p) = bytes_of text pool p

@@ -1,7 +1,7 @@
 // The names of the members of objects, as digital search trees.
 ghost use Rattle.std.specs.Prelude.{◌≡◌, ◌<◌, [], length, take};
-ghost use Rattle.names.specs.Bits.{hash_of_lem, bit_of};
-ghost use Rattle.names.specs.Index.{child_of, with_child_lem, AddTold, LeafTold};
+ghost use Rattle.names.specs.Bits.{name_hash, bit_of};
+ghost use Rattle.names.specs.Index.{child_of, linked, AddTold, LeafTold};
 
 use crate::part::{Holder, Part};
 use std::alloc::{AllocError, Global};
@@ -15,6 +15,7 @@ const FNV_OFFSET: u32 = 2166136261;
 const FNV_PRIME: u32 = 16777619;
 
 // A name, and the links at which the search goes on, on either side.
+// Links are told by their index: no name costs an allocation.
 #[derive(Clone, Copy, Debug)]
 pub struct Link {
     pub name: Part,
@@ -30,9 +31,9 @@ pub struct Names {
 }
 
 // FNV-1a, its high half mixed into its low half.
-#[tactic(auto, unfolding(crate::specs::Bits::hash_of_lem))]
+#[tactic(auto, unfolding(crate::specs::Bits::name_hash))]
 fn hash_of(bytes: &[u8]) -> u32
-    ensures { result ≡ hash_of_lem bytes.now }
+    ensures { result ≡ name_hash bytes.now }
 {
     let hash = bytes.iter().fold(FNV_OFFSET, |hash, byte| {
         (hash ^ u32::from(*byte)).wrapping_mul(FNV_PRIME)
@@ -63,7 +64,7 @@ impl Link {
 
     // The link with another child.
     fn with_child(self, high: bool, child: usize) -> Link
-        ensures { result ≡ with_child_lem self high child }
+        ensures { result ≡ linked self high child }
     {
         let child = Some(child);
         if high {

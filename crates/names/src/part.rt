@@ -17,8 +17,6 @@ pub enum Part {
 }
 
 impl Part {
-    pub const EMPTY: Part = Part::Text { start: 0, end: 0 };
-
     pub fn start(self) -> usize
         ensures { result ≡ start_of self }
     {

@@ -1,24 +1,20 @@
 -- Nodes, and what the functions on their table do.
-use Rattle.std.specs.Prelude.{◌≡◌, ℕ, ◌-◌, false, cond, List, [], ◌∷◌, ◌++◌, length, pos, Ok, Err, Result, nat_lt, slice_index_or, slice_set}
+use Rattle.std.specs.Prelude.{◌≡◌, ℕ, ◌-◌, false, cond, List, [], ◌∷◌, ◌++◌, length, pos, None, Ok, Err, Option, Result, nat_lt, slice_index_or, slice_set}
 use Rattle.names.specs.declared.part.Part.{Part}
-use Rattle.names.specs.declared.part.Part.TheVariants.{Text}
 use Rattle.source.specs.declared.raw.Kind.{Kind}
 use Rattle.source.specs.declared.raw.Kind.TheVariants.{Null}
 use Rattle.source.specs.declared.nodes.Node.{Node}
 
-abbrev pub nowhere : Part
-nowhere = Text 0 0
-
 -- what stands for a node that is not there
 abbrev pub blank : Node
-blank = record { kind = Null; place = 0; flag = false; scale = record { negative = false; exponent = pos 0 }; name = nowhere; text = nowhere; size = 0 }
+blank = record { kind = Null; place = 0; flag = false; scale = record { negative = false; exponent = pos 0 }; name = None; text = None; size = 0 }
 
 abbrev pub node_at : List Node → ℕ → Node
 node_at nodes at = slice_index_or nodes at blank
 
 -- a node with nothing below it yet
-abbrev pub headed : Kind → ℕ → Part → Node
-headed kind place name = record { kind = kind; place = place; flag = false; scale = record { negative = false; exponent = pos 0 }; name = name; text = nowhere; size = 1 }
+abbrev pub headed : Kind → ℕ → Option Part → Node
+headed kind place name = record { kind = kind; place = place; flag = false; scale = record { negative = false; exponent = pos 0 }; name = name; text = None; size = 1 }
 
 -- a node of another size
 abbrev pub sized : Node → ℕ → Node

@@ -9,18 +9,21 @@ use std::alloc::{AllocError, Global};
 use text::decimal::Scale;
 
 // A value; those inside it follow it in the table.
+// No enum: `Source` asks for kind, flag, scale and text apart, of any node.
 #[derive(Clone, Copy, Debug)]
 pub struct Node {
     pub kind: Kind,
     pub place: usize,
     pub flag: bool,
     pub scale: Scale,
-    pub name: Part,
-    pub text: Part,
+    // Of a member's value.
+    pub name: Option<Part>,
+    pub text: Option<Part>,
     // Counts the node and all below it.
     pub size: usize,
 }
 
+// One table for a text: no value costs an allocation.
 #[derive(Drop)]
 pub struct Nodes {
     pub list: Vec<Node>,
@@ -36,13 +39,13 @@ impl Node {
         place: 0,
         flag: false,
         scale: Scale::ZERO,
-        name: Part::EMPTY,
-        text: Part::EMPTY,
+        name: None,
+        text: None,
         size: 0,
     };
 
     // A node with nothing below it yet.
-    pub fn new(kind: Kind, place: usize, name: Part) -> Node
+    pub fn new(kind: Kind, place: usize, name: Option<Part>) -> Node
         ensures { result ≡ headed kind place name }
     {
         Node {
@@ -84,9 +87,9 @@ impl Nodes {
         ensures pool { self.new.pool ≡ self.old.pool }
         ensures names { self.new.names ≡ self.old.names }
     {
-        if at < self.list.len() {
-            let size = self.list.len() - at;
-            self.list[at].size = size;
+        let len = self.list.len();
+        if let Some(node) = self.list.get_mut(at) {
+            node.size = len - at;
         }
     }
 

@@ -102,7 +102,7 @@ fn defaults_fit(operation: &Operation<'_>) -> Result<(), MakeFault> {
         if let Some(at) = variable.default {
             let literal = operation.literal(at);
             if tree.holds_variable(at) || !defaults::fits(&literal, at, variable.ty.shape) {
-                return Err(MakeFault::BadDefault(tree.place(at)));
+                return Err(MakeFault::BadDefault(literal.place(at)));
             }
         }
     }
