@@ -1,5 +1,5 @@
 -- Tokens, and the nodes of values that are one token.
-use Rattle.std.proofs.Common.{◌≡◌, ℕ, zero, suc, ◌+◌, ◌-◌, ◌*◌, ◌^◌, ◌≤◌, Bool, true, false, List, [], ◌∷◌, ◌++◌, length, take, drop, ℤ, pos, ◌-ℤ◌, neg_ℤ, nat_abs, IfOk, Ok, Err, Result, sym, refl, ap, ◌∙◌, subst, ⊎_elim, append-nil, arith, length-append}
+use Rattle.std.proofs.Common.{◌≡◌, ℕ, zero, suc, ◌+◌, ◌-◌, ◌*◌, ◌^◌, ◌≤◌, Bool, true, false, List, [], ◌∷◌, ◌++◌, length, take, drop, ℤ, pos, ◌-ℤ◌, neg_ℤ, nat_abs, IfOk, None, Ok, Err, Option, Result, sym, refl, ap, ◌∙◌, subst, ⊎_elim, append-nil, arith, length-append}
 use Rattle.std.proofs.lemmas.Bool.{cases_Bool}
 use Rattle.std.proofs.lemmas.List.{drop_at, drop-drop, take_all}
 use Rattle.model.specs.Values.{Raw, same, place_of}
@@ -20,11 +20,11 @@ use Rattle.text.specs.TokenFound.{TokenTold}
 use Rattle.text.proofs.LexBase.{cut, length_part}
 use Rattle.names.specs.declared.part.Part.{Part}
 use Rattle.names.specs.declared.part.Part.TheVariants.{Pool}
-use Rattle.names.specs.Parts.{PartFits, bytes_of}
+use Rattle.names.specs.Parts.{PartFits, MayFit, bytes_of, bytes_if_any}
 use Rattle.source.specs.declared.nodes.Node.{Node}
 use Rattle.source.specs.declared.raw.Kind.{Kind}
 use Rattle.source.specs.Heads.{kind_of, flag_of, negative_of, exponent_of, text_of}
-use Rattle.source.specs.Nodes.{headed, nowhere}
+use Rattle.source.specs.Nodes.{headed}
 use Rattle.reader.specs.Told.{LookTold, NodeFor}
 
 pub look_of : (language : Language) (text : List ℕ) (at : ℕ) (r : Result Lexeme Fault) → TokenTold language text at r → IfOk r (λ l. Placed (length text) at l.start l.end (is_end l.token)) → LookTold language text at r
@@ -67,8 +67,8 @@ not_beyond n (great h g) =
     omega (arith, w, n.small, p.2)
 
 -- the node of a value with nothing below it
-pub node_for : (text before after : List ℕ) (k : Kind) (s : ℕ) (name : Part) (m : Node) (f : Bool) (sc : Scale) (p : Part) (t : Raw) → m ≡ headed k s name → k ≡ kind_of t → s ≡ place_of t → f ≡ flag_of t → sc.negative ≡ negative_of t → sc.exponent ≡ exponent_of t
-    → PartFits text after p → bytes_of text after p ≡ text_of t → (added : List ℕ) → after ≡ before ++ added
+pub node_for : (text before after : List ℕ) (k : Kind) (s : ℕ) (name : Option Part) (m : Node) (f : Bool) (sc : Scale) (p : Option Part) (t : Raw) → m ≡ headed k s name → k ≡ kind_of t → s ≡ place_of t → f ≡ flag_of t → sc.negative ≡ negative_of t → sc.exponent ≡ exponent_of t
+    → MayFit text after p → bytes_if_any text after p ≡ text_of t → (added : List ℕ) → after ≡ before ++ added
     → NodeFor text before after name t (record { kind = m.kind; place = m.place; flag = f; scale = sc; name = m.name; text = p; size = m.size })
 node_for text before after k s name m f sc p t e ek es ef en ex fits is added grown = record {
   says = record { kind = ap (λ (n : Node). n.kind) e ∙ ek; place = ap (λ (n : Node). n.place) e ∙ es; flag = ef; negative = en; exponent = ex; fits = fits; text = is };
@@ -79,12 +79,12 @@ node_for text before after k s name m f sc p t e ek es ef en ex fits is added gr
 }
 
 -- the same, of a value without a text
-pub bare_node : (text pool : List ℕ) (k : Kind) (s : ℕ) (name : Part) (m : Node) (f : Bool) (t : Raw) → m ≡ headed k s name → k ≡ kind_of t → s ≡ place_of t → f ≡ flag_of t → false ≡ negative_of t → pos 0 ≡ exponent_of t → [] ≡ text_of t
+pub bare_node : (text pool : List ℕ) (k : Kind) (s : ℕ) (name : Option Part) (m : Node) (f : Bool) (t : Raw) → m ≡ headed k s name → k ≡ kind_of t → s ≡ place_of t → f ≡ flag_of t → false ≡ negative_of t → pos 0 ≡ exponent_of t → [] ≡ text_of t
     → NodeFor text pool pool name t (record { kind = m.kind; place = m.place; flag = f; scale = m.scale; name = m.name; text = m.text; size = m.size })
 bare_node text pool k s name m f t e ek es ef en ex is =
-    let p : m.text ≡ nowhere = ap (λ (n : Node). n.text) e in
+    let p : m.text ≡ None = ap (λ (n : Node). n.text) e in
     node_for text pool pool k s name m f m.scale m.text t e ek es ef (ap (λ (n : Node). n.scale.negative) e ∙ en) (ap (λ (n : Node). n.scale.exponent) e ∙ ex)
-    (subst (λ (q : Part). PartFits text pool q) (sym p) (omega arith, omega arith)) (ap (λ (q : Part). bytes_of text pool q) p ∙ is) [] (sym (append-nil pool))
+    (subst (λ (q : Option Part). MayFit text pool q) (sym p) tt) (ap (λ (q : Option Part). bytes_if_any text pool q) p ∙ is) [] (sym (append-nil pool))
 
 -- what was added to a pool is a part of it
 pub pool_part : (text before added after : List ℕ) (i j : ℕ) → after ≡ before ++ added → i ≡ length before → j ≡ length after → PartFits text after (Pool i j) × (bytes_of text after (Pool i j) ≡ added)

@@ -8,17 +8,19 @@ ghost use Rattle.text.specs.TokenGrammar.{a_name, a_number, Numeral};
 ghost use Rattle.text.specs.TokenFound.{Writes};
 ghost use Rattle.reader.specs.Told.{LookTold, LeafNode, LeafTold, PartTold, Lexed, StartTold, BeginTold};
 
-use crate::manner::Reader;
+use crate::reading::Reader;
 use names::part::Part;
 use source::nodes::Node;
 use source::raw::Kind;
+use source::value::Written;
 use text::fault::Fault;
 use text::language::Language;
+use text::number::NumberKind;
 use text::token::{Lexeme, Token};
 use text::{decimal, graphql, json, string};
 
 // The node of a name from `start` to `end`: null, a boolean or an enum value.
-fn word_node(word: &[u8], start: usize, end: usize, name: Part) -> Node
+fn word_node(word: &[u8], start: usize, end: usize, name: Option<Part>) -> Node
     ensures { (text pool : List ℕ) → start ≤ end → end ≤ length text → word.now ≡ cut_out text start end → LeafNode text pool pool name start (a_name word.now) result }
 {
     if word == b"null".as_slice() {
@@ -34,24 +36,29 @@ fn word_node(word: &[u8], start: usize, end: usize, name: Part) -> Node
         return Node::new(Kind::Boolean, start, name);
     }
     Node {
-        text: Part::Text { start, end },
+        text: Some(Part::Text { start, end }),
         ..Node::new(Kind::Enum, start, name)
     }
 }
 
 // The node of a whole number from `start` to `end`, whose normal form ends where it ends.
-fn whole_node(spelled: &[u8], start: usize, end: usize, name: Part) -> Node
+fn whole_node(spelled: &[u8], start: usize, end: usize, name: Option<Part>) -> Node
     ensures { (text pool : List ℕ) → start ≤ end → end ≤ length text → spelled.now ≡ cut_out text start end → LeafNode text pool pool name start (a_number Whole spelled.now) result }
 {
     let from = end.saturating_sub(decimal::whole(spelled).len());
     Node {
-        text: Part::Text { start: from, end },
+        text: Some(Part::Text { start: from, end }),
         ..Node::new(Kind::Whole, start, name)
     }
 }
 
 // The node of a decimal, whose digits in normal form are added to the pool.
-fn decimal_node(spelled: &[u8], start: usize, name: Part, pool: &mut Vec<u8>) -> Result<Node, Fault>
+fn decimal_node(
+    spelled: &[u8],
+    start: usize,
+    name: Option<Part>,
+    pool: &mut Vec<u8>,
+) -> Result<Node, Fault>
     requires { Numeral spelled.now Decimal }
     ensures { (text : List ℕ) → LeafTold text pool.old.items pool.new.items name start (a_number Decimal spelled.now) result }
 {
@@ -59,20 +66,20 @@ fn decimal_node(spelled: &[u8], start: usize, name: Part, pool: &mut Vec<u8>) ->
     let scale = decimal::normal(spelled, pool)?;
     Ok(Node {
         scale,
-        text: Part::Pool {
+        text: Some(Part::Pool {
             start: from,
             end: pool.len(),
-        },
+        }),
         ..Node::new(Kind::Decimal, start, name)
     })
 }
 
-impl<'a> Reader<'a> {
+impl<'a, W: Written> Reader<'a, W> {
     // The first token at or after `at`.
     pub(crate) fn token(self, at: usize) -> Result<Lexeme<'a>, Fault>
-        ensures { LookTold self.entry.manner.language self.entry.text.now at result }
+        ensures { LookTold W.LANGUAGE self.entry.text.now at result }
     {
-        match self.manner.language {
+        match W::LANGUAGE {
             Language::Json => json::token(self.text, at),
             Language::Graphql => graphql::token(self.text, at),
         }
@@ -88,7 +95,7 @@ impl<'a> Reader<'a> {
         pool: &mut Vec<u8>,
     ) -> Result<Part, Fault>
         requires { lexeme.start + 1 < lexeme.end }
-        ensures { (text cs : List ℕ) → raw.now ≡ cut_out text (lexeme.entry.start + 1) (lexeme.entry.end - 1) → Writes self.entry.manner.language text (lexeme.entry.start + 1) lexeme.entry.end plain cs → PartTold text pool.old.items pool.new.items (encodes cs) result }
+        ensures { (text cs : List ℕ) → raw.now ≡ cut_out text (lexeme.entry.start + 1) (lexeme.entry.end - 1) → Writes W.LANGUAGE text (lexeme.entry.start + 1) lexeme.entry.end plain cs → PartTold text pool.old.items pool.new.items (encodes cs) result }
     {
         if plain {
             return Ok(Part::Text {
@@ -97,7 +104,7 @@ impl<'a> Reader<'a> {
             });
         }
         let from = pool.len();
-        string::decode(raw, self.manner.language, pool)?;
+        string::decode(raw, W::LANGUAGE, pool)?;
         Ok(Part::Pool {
             start: from,
             end: pool.len(),
@@ -105,9 +112,14 @@ impl<'a> Reader<'a> {
     }
 
     // The node of a value that begins with the token; nothing is below it yet.
-    fn node_of(self, lexeme: Lexeme<'_>, name: Part, pool: &mut Vec<u8>) -> Result<Node, Fault>
-        requires { (text : List ℕ) × Lexed self.manner.language text lexeme }
-        ensures { (text : List ℕ) (k : Lexed self.entry.manner.language text lexeme.entry) → StartTold text pool.old.items pool.new.items name lexeme.entry.start k.token result }
+    fn node_of(
+        self,
+        lexeme: Lexeme<'_>,
+        name: Option<Part>,
+        pool: &mut Vec<u8>,
+    ) -> Result<Node, Fault>
+        requires { (text : List ℕ) × Lexed W.LANGUAGE text lexeme }
+        ensures { (text : List ℕ) (k : Lexed W.LANGUAGE text lexeme.entry) → StartTold text pool.old.items pool.new.items name lexeme.entry.start k.token result }
     {
         let Lexeme { token, start, end } = lexeme;
         match token {
@@ -115,12 +127,14 @@ impl<'a> Reader<'a> {
             Token::OpenBrace => Ok(Node::new(Kind::Object, start, name)),
             Token::Dollar => Ok(Node::new(Kind::Variable, start, name)),
             Token::Name(word) => Ok(word_node(word, start, end, name)),
-            Token::Whole(spelled) => Ok(whole_node(spelled, start, end, name)),
-            Token::Decimal(spelled) => decimal_node(spelled, start, name, pool),
+            Token::Number(kind, spelled) => match kind {
+                NumberKind::Whole => Ok(whole_node(spelled, start, end, name)),
+                NumberKind::Decimal => decimal_node(spelled, start, name, pool),
+            },
             Token::Text { raw, plain } => {
                 let text = self.string_part(lexeme, raw, plain, pool)?;
                 Ok(Node {
-                    text,
+                    text: Some(text),
                     ..Node::new(Kind::String, start, name)
                 })
             }
@@ -132,10 +146,10 @@ impl<'a> Reader<'a> {
     pub(crate) fn begin(
         self,
         at: usize,
-        name: Part,
+        name: Option<Part>,
         pool: &mut Vec<u8>,
     ) -> Result<(Lexeme<'a>, Node), Fault>
-        ensures { BeginTold self.entry.manner self.entry.text.now at pool.old.items pool.new.items name result }
+        ensures { BeginTold W.LANGUAGE self.entry at name pool.old.items pool.new.items result }
     {
         let lexeme = self.token(at)?;
         let node = self.node_of(lexeme, name, pool)?;

@@ -1,4 +1,4 @@
-use Rattle.std.proofs.Common.{◌≡◌, ℕ, List, length, Err, vec_items, refl, ap, ◌∙◌}
+use Rattle.std.proofs.Common.{◌≡◌, ℕ, List, length, Some, Err, vec_items, refl, ap, ◌∙◌}
 use Rattle.std.proofs.lemmas.Result.{err_from_is_err_and}
 use Rattle.text.specs.declared.fault.Fault.{Fault}
 use Rattle.text.specs.declared.fault.Fault.TheVariants.{BadText, TooDeep, NoSpace, RepeatedName, LongNumber, NoMemory}
@@ -38,6 +38,6 @@ returns c text =
     record {
       tree = scalar c.args.start (decimal d);
       leaf = l_decimal a.normal;
-      node = node_for text before after Decimal c.args.start c.args.name c.new.result c.new.result.flag c.in_ok-scale.scale (Pool c.len-from.result c.len.result) (scalar c.args.start (decimal d)) c.new.ensures refl refl
+      node = node_for text before after Decimal c.args.start c.args.name c.new.result c.new.result.flag c.in_ok-scale.scale (Some (Pool c.len-from.result c.len.result)) (scalar c.args.start (decimal d)) c.new.ensures refl refl
           (ap (λ (n : Node). n.flag) c.new.ensures) refl refl q.0 q.1 a.digits a.added;
     }

@@ -1,4 +1,4 @@
-use Rattle.std.proofs.Common.{◌≡◌, ◌-◌, [], length, sym, refl, ap, ◌∙◌, append-nil, arith}
+use Rattle.std.proofs.Common.{◌≡◌, ◌-◌, [], length, Some, sym, refl, ap, ◌∙◌, append-nil, arith}
 use Rattle.source.specs.declared.nodes.Node.{Node}
 use Rattle.source.specs.declared.raw.Kind.TheVariants.{Whole}
 use Rattle.model.specs.Values.{scalar, whole}
@@ -16,7 +16,7 @@ returns c text pool h l e =
     record {
       tree = scalar c.args.start (whole r);
       leaf = l_whole c.whole.ensures.pinned;
-      node = node_for text pool pool Whole c.args.start c.args.name c.new.result c.new.result.flag c.new.result.scale (Text c.saturating_sub-from.result c.args.end) (scalar c.args.start (whole r)) c.new.ensures refl refl
+      node = node_for text pool pool Whole c.args.start c.args.name c.new.result c.new.result.flag c.new.result.scale (Some (Text c.saturating_sub-from.result c.args.end)) (scalar c.args.start (whole r)) c.new.ensures refl refl
           (ap (λ (n : Node). n.flag) c.new.ensures) (ap (λ (n : Node). n.scale.negative) c.new.ensures) (ap (λ (n : Node). n.scale.exponent) c.new.ensures)
           (omega arith, l) (ap (λ k. part text k c.args.end) f ∙ i) [] (sym (append-nil pool));
     }

@@ -1,4 +1,4 @@
-use Rattle.std.proofs.Common.{true, false, [], sym, refl, ap, ◌∙◌, true≢false, append-nil}
+use Rattle.std.proofs.Common.{true, false, [], Some, sym, refl, ap, ◌∙◌, true≢false, append-nil}
 use Rattle.std.proofs.lemmas.Slice.Eq.{slice_eq-Decides}
 use Rattle.source.specs.declared.nodes.Node.{Node}
 use Rattle.source.specs.declared.raw.Kind.TheVariants.{Null, Boolean, Enum}
@@ -38,7 +38,7 @@ returns c text pool h l e =
           (λ z. true≢false (sym ((slice_eq-Decides Decides-eqb _ c.as_slice.result.now c.eq.result c.eq.ensures).1 (z ∙ sym c.as_slice.ensures)) ∙ c.if-eq.false))
           (λ z. true≢false (sym ((slice_eq-Decides Decides-eqb _ c.as_slice-2.result.now c.eq-2.result c.eq-2.ensures).1 (z ∙ sym c.as_slice-2.ensures)) ∙ c.if-eq-2.false))
           (λ z. true≢false (sym ((slice_eq-Decides Decides-eqb _ c.as_slice-3.result.now c.eq-3.result c.eq-3.ensures).1 (z ∙ sym c.as_slice-3.ensures)) ∙ c.if-eq-3.false));
-      node = node_for text pool pool Enum c.args.start c.args.name c.new-2.result c.new-2.result.flag c.new-2.result.scale (Text c.args.start c.args.end) (scalar c.args.start (symbol c.args.word.now)) c.new-2.ensures refl refl
+      node = node_for text pool pool Enum c.args.start c.args.name c.new-2.result c.new-2.result.flag c.new-2.result.scale (Some (Text c.args.start c.args.end)) (scalar c.args.start (symbol c.args.word.now)) c.new-2.ensures refl refl
           (ap (λ (n : Node). n.flag) c.new-2.ensures) (ap (λ (n : Node). n.scale.negative) c.new-2.ensures) (ap (λ (n : Node). n.scale.exponent) c.new-2.ensures)
           (h, l) (sym e) [] (sym (append-nil pool));
     }

@@ -12,22 +12,22 @@ use Rattle.reader.proofs.Beginning.{holds_as}
 use Rattle.reader.proofs.Growing.{blames_all, leaf_added}
 use Rattle.reader.proofs.Tables.{Pushed, pushed_node, leaf_head}
 use Rattle.reader.proofs.TokenKinds.{no_variable}
-use Rattle.reader.proofs.manner.Reader.variable.Goals as goal
+use Rattle.reader.proofs.reading.Reader.variable.Goals as goal
 
 pub returns-in_err-lexeme : goal.returns-in_err-lexeme
-returns-in_err-lexeme c d i name room o =
+returns-in_err-lexeme g c d room i name o =
     let p = err_from_is_err_and c.from_residual.result c.from_residual.ensures.1 in
-    rw (p.1, p.2) (blames_all (λ g. Reads _ _ _ d i (fails g)) _ (r_variable {v = blind c.in_err-lexeme.field-0.0} o.seen room c.in_err-lexeme.ensures refl))
+    rw (p.1, p.2) (blames_all (λ f. Reads _ _ _ d i (fails f)) _ (r_variable {v = blind c.in_err-lexeme.field-0.0} o.seen room c.in_err-lexeme.ensures refl))
 
 pub returns-in_default : goal.returns-in_default
-returns-in_default c d i name room o =
+returns-in_default g c d room i name o =
     let k = c.in_ok-lexeme.ensures in
     let l = c.in_ok-lexeme.lexeme in
     r_variable {v = sees l.start l.end k.lexed.token} o.seen room k.seen
-    (no_variable c.args.self.manner.language c.args.self.text.now l.start l.end k.lexed.token l.token o.start l.start l.end c.in_default.not-Name k.lexed.holds)
+    (no_variable g.W.Written.LANGUAGE c.args.self.text.now l.start l.end k.lexed.token l.token o.start l.start l.end c.in_default.not-Name k.lexed.holds)
 
 pub returns : goal.returns
-returns c d i name room o =
+returns g c d room i name o =
     let k = c.in_ok-lexeme.ensures in
     let l = c.in_ok-lexeme.lexeme in
     let w = c.in-Name.field-0 in

@@ -1,19 +1,14 @@
 // How a text is read.
 use source::limits::DEEPEST;
-use text::language::Language;
+use std::marker::PhantomData;
 
-#[derive(Clone, Copy)]
-pub struct Manner {
-    pub language: Language,
+// Reads the values of a text in W.
+#[derive_where(Clone, Copy)]
+pub(crate) struct Reader<'a, W> {
+    pub text: &'a [u8],
     // Whether an object is refused in which a name stands twice.
     pub distinct: bool,
-}
-
-// Reads the values of a text.
-#[derive(Clone, Copy)]
-pub(crate) struct Reader<'a> {
-    pub text: &'a [u8],
-    pub manner: Manner,
+    pub language: PhantomData<W>,
 }
 
 // How many levels a value at depth 0 has, its own included.
