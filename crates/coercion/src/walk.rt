@@ -121,11 +121,13 @@ impl<'w, S: Source, R: ScalarRule> Walk<'w, '_, S, R> {
             Kind::Null | Kind::Variable => (Body::Null, None),
             Kind::Boolean => (Body::Boolean(source.boolean(at)), None),
             Kind::Whole => (Body::Whole(text), None),
-            Kind::Decimal => {
-                let scale = source.scale(at);
-                let digits = text;
-                (Body::Decimal { scale, digits }, None)
-            }
+            Kind::Decimal => (
+                Body::Decimal {
+                    scale: source.scale(at),
+                    digits: text,
+                },
+                None,
+            ),
             Kind::String | Kind::Enum => (Body::String(text), None),
             Kind::List => (Body::List, Some(Rest::Items(source.inside(at)))),
             Kind::Object => (Body::Object, Some(Rest::Members(source.inside(at)))),
@@ -256,6 +258,8 @@ impl<'w, S: Source, R: ScalarRule> Walk<'w, '_, S, R> {
         }
     }
 
+    // The working bytes and the open frames stand side by side: of a struct that holds a guard, its maker is not told
+    // what the guard's bytes are at its end.
     // Writes the name and the record of the value at `at`, after what is written.
     pub fn walk(
         &self,

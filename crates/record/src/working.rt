@@ -8,6 +8,7 @@ use crate::kind::{HEADER, RecordKind};
 use text::decimal::Scale;
 
 // Working bytes, of which the first `used` are written. They are cleared on every way out.
+// They are lent and not a vector, so that a load allocates nothing.
 pub struct Working<'a> {
     pub bytes: &'a mut [u8],
     pub used: usize,
@@ -66,6 +67,7 @@ impl<'a> Working<'a> {
         requires short { count < 2 ^ 32 }
         ensures { Wrote self.old self.new (header count (number_of kind)) }
     {
+        // `as` loses nothing: the count is below 2^32.
         let [a, b, c, d] = (count as u32).to_le_bytes();
         self.put(&[a, b, c, d, u8::from(kind), 0]);
     }
@@ -107,6 +109,7 @@ impl<'a> Working<'a> {
         }
     }
 
+    // The bound is asked here and not in the type, which would ask it of all who make working bytes.
     // Opens a record, with the name before it if there is one, and tells where it starts; where there is no room for all of it, nothing is written.
     pub fn begin(&mut self, name: Option<&[u8]>, body: Body<'_>) -> Option<usize>
         requires { size self.old < 2 ^ 32 }

@@ -17,7 +17,7 @@ pub struct Extent {
 // What is known of the bytes of a sheet after an accepted load.
 #[derive(Clone, Copy)]
 pub struct Contents {
-    // Of the variables that have a value, in the order of their definitions.
+    // Of the variables that have a value, in the order of their definitions; an array, so that a load allocates nothing.
     pub extents: [Option<Extent>; MOST_VARIABLES],
     // How many bytes of the sheet count.
     pub length: usize,

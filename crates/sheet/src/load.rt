@@ -110,15 +110,13 @@ impl<'s, S: Source, R: ScalarRule> Request<'_, 's, '_, S, R> {
         let mut extents = [None; MOST_VARIABLES];
         let mut frames = Frames::new();
         for (index, variable) in self.operation.variables.iter().enumerate() {
-            if index >= MOST_VARIABLES {
-                let spot = Spot {
-                    place: variable.place,
-                    variable: Some(index),
-                    ..Spot::default()
-                };
-                return Err(RequestFault::Value(ValueFault::NoSpace(spot)));
-            }
-            extents[index] = self.write_variable(index, variable, out, &mut frames)?;
+            let spot = Spot {
+                place: variable.place,
+                variable: Some(index),
+                ..Spot::default()
+            };
+            let extent = extents.get_mut(index).ok_or(ValueFault::NoSpace(spot))?;
+            *extent = self.write_variable(index, variable, out, &mut frames)?;
         }
         Ok(extents)
     }
@@ -174,7 +172,7 @@ impl<'a, 's, 'o, R: ScalarRule> Sheet<'a, 's, 'o, R> {
         ensures { result.now ≡ take (taken self.now.contents) self.now.bytes.items }
     {
         let length = self.contents.as_ref().map_or(0, |contents| contents.length);
-        &self.bytes.as_slice()[0..length]
+        &self.bytes.as_slice()[..length]
     }
 
     // Reads a JSON text, and loads the values that it writes.

@@ -29,6 +29,7 @@ pub enum BodyError {
     LongNumber,
 }
 
+// By hand: a derived `From` does not promise which case it gives.
 impl From<UnknownKind> for BodyError {
     ghost from_gives = { λ _ e. e ≡ BadForm };
 

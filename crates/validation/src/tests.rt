@@ -5,7 +5,7 @@ use reader::document::{JsonText, read};
 use std::alloc::Global;
 use text::fault::Fault;
 
-// The number and the place of a refusal.
+// The number of a refusal, 0 for want of memory, and its place.
 fn refusal<T: Drop>(made: Result<T, MakeFault>) -> Option<(u8, usize)> {
     made.err()
         .map(|fault| (fault.number().unwrap_or(0), fault.place()))
