@@ -6,7 +6,7 @@ use Rattle.text.specs.Cuts.{part}
 use Rattle.text.proofs.LexBase.{cut, length_part}
 use Rattle.model.specs.Records.{framed}
 use Rattle.stored.specs.declared.header.Record.{Record}
-use Rattle.stored.specs.Frames.{past, Framed, Unframed, end_of, RecordAt}
+use Rattle.stored.specs.Frames.{past, Framed, Unframed, end_of, RecordAt, Valued, a_member}
 use Rattle.stored.specs.Past.{size_at}
 use Rattle.stored.specs.OneFrame.{inside}
 
@@ -141,3 +141,7 @@ frame_in bytes xs i to top size h c up six_long small is zero fits kind at body 
     let b4 = cut_byte 4 c (omega arith) in
     let b5 = cut_byte 5 c (omega arith) in
     frame_is bytes i to size h (omega arith) small s (kind ∙ b4) at body (omega arith) (omega arith) (omega arith)
+
+-- the record of a member's value, where its name's ends
+pub member_at : {bytes : List ℕ} {i to e : ℕ} {g h : Record} → RecordAt bytes i to g → g.kind ≡ 8 → e ≡ end_of g → RecordAt bytes e to h → Valued bytes i to e h
+member_at a k q b = rw q (a_member a k (rw q at b))
