@@ -16,6 +16,7 @@ const FNV_PRIME: u32 = 16777619;
 
 // A name, and the links at which the search goes on, on either side.
 // Links are told by their index: no name costs an allocation.
+// Two fields and not an array, since a side is one bit of a hash, and so a `bool`.
 #[derive(Clone, Copy, Debug)]
 pub struct Link {
     pub name: Part,
@@ -106,7 +107,7 @@ impl Names {
                 return None;
             }
             let high = bit(hash, name, level);
-            // Closing an object cuts links off: a child that does not come after this link, before the end, is none.
+            // A closed object's links are cut off, but links to them stay: a child that is not between this link and the end is none.
             match link.child(high) {
                 Some(next) if next > at && next < self.links.len() => at = next,
                 _ => return Some((at, high)),

@@ -7,7 +7,7 @@ use Rattle.text.specs.TokenGrammar.{Lexical, a_mark, colon}
 use Rattle.text.proofs.LexBase.{length_part}
 use Rattle.names.specs.declared.names.Link.{Link}
 use Rattle.names.specs.declared.part.Part.{Part}
-use Rattle.names.specs.Parts.{holder, start_of, end_of}
+use Rattle.names.specs.Parts.{lies_in, start_of, end_of}
 use Rattle.names.proofs.Growth.{sound_pool, names_pool, sound_none}
 use Rattle.names.specs.Index.{names_from}
 use Rattle.reader.specs.Tokens.{sees}
@@ -16,7 +16,7 @@ use Rattle.reader.specs.Told.{PartFor, NamesHeld, NewTold}
 use Rattle.std.proofs.lemmas.List.{drop_all}
 
 pub part_length : {text before after n : List ℕ} {p : Part} → PartFor text before after n p → length n ≡ end_of p - start_of p
-part_length {text} {before} {after} {n} {p} h = sym (ap length h.is) ∙ length_part (holder text after p) (start_of p) (end_of p) h.fits.1
+part_length {text} {before} {after} {n} {p} h = sym (ap length h.is) ∙ length_part (lies_in text after p) (start_of p) (end_of p) h.fits.1
 
 -- the names held, with a longer pool
 pub held_pool : (distinct : Bool) (text pool pool' : List ℕ) (links : List Link) (base : ℕ) (ns : List Name) (more : List ℕ) → pool' ≡ pool ++ more → NamesHeld distinct text pool links base ns → NamesHeld distinct text pool' links base ns

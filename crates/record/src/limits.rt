@@ -1,4 +1,2 @@
-// What the records of a sheet may come to.
-
 // The most bytes of a sheet.
 pub const LONGEST_SHEET: usize = 65536;

@@ -15,20 +15,21 @@ pub struct Working<'a> {
     ghost inside: { used ≤ length bytes.now },
 }
 
+impl Drop for Working<'_> {
+    fn drop(self)
+        ensures { self.exit.0.now ≡ replicate (length self.entry.bytes.now) 0 }
+    {
+        // Each field is named, since `..` would move `bytes` out of a value that has a `drop`.
+        let Working { bytes, used: _ } = self;
+        bytes.fill(0);
+    }
+}
+
 // How many bytes the record of a member's name has, if there is one.
 fn name_size(name: Option<&[u8]>) -> usize
     ensures { result ≡ min (length (named name.entry)) (2 ^ 64 - 1) }
 {
     name.map_or(0, |name| name.len().saturating_add(HEADER))
-}
-
-impl Drop for Working<'_> {
-    fn drop(self)
-        ensures { self.exit.0.now ≡ replicate (length self.entry.bytes.now) 0 }
-    {
-        let Working { bytes, used: _ } = self;
-        bytes.fill(0);
-    }
 }
 
 impl<'a> Working<'a> {

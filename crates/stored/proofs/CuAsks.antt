@@ -5,8 +5,8 @@ use Rattle.model.specs.Records.{kind}
 use Rattle.source.specs.Heads.{kind_of}
 use Rattle.record.specs.Kinds.{number_of}
 use Rattle.stored.specs.declared.stored.Target.{Target}
-use Rattle.stored.specs.declared.header.Frame.{Frame}
-use Rattle.stored.specs.Frames.{FrameTold}
+use Rattle.stored.specs.declared.header.Record.{Record}
+use Rattle.stored.specs.Frames.{RecordTold}
 use Rattle.stored.specs.OneFrame.{one_framed}
 use Rattle.stored.specs.Cursors.{shown, Held, Named, Follows, FollowTold, OfRecord, kind_numbered}
 
@@ -29,6 +29,6 @@ kind_shown p f (r_list rs) = refl
 kind_shown p f (r_object ms) = refl
 
 -- the body of the frame at a member's name
-pub named_body : {bytes : List ℕ} {at : ℕ} {n xs : List ℕ} (o : Option Frame) → FrameTold bytes at (length bytes) o → Named bytes at n → MatchOption o (xs ≡ []) (λ h. xs ≡ h.body.now) → xs ≡ n
+pub named_body : {bytes : List ℕ} {at : ℕ} {n xs : List ℕ} (o : Option Record) → RecordTold bytes at (length bytes) o → Named bytes at n → MatchOption o (xs ≡ []) (λ h. xs ≡ h.body.now) → xs ≡ n
 named_body None f k m = absurd (f 8 _ k)
-named_body (Some h) f k m = m ∙ f.whole ∙ (one_framed f.framed k).1
+named_body (Some h) f k m = m ∙ (one_framed f.framed k).1

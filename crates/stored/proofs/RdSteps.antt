@@ -1,25 +1,31 @@
 -- What the turns of reading keep.
-use Rattle.std.proofs.Common.{◌≡◌, ℕ, ◌-◌, ◌<◌, ◌≤◌, Bool, true, false, List, [], ◌∷◌, ◌++◌, length, take, Some, None, Option, Ok, Err, Result, MatchResult, Decides, vec_items, sym, refl, ap, ◌∙◌, subst, arith}
+use Rattle.std.proofs.Common.{◌≡◌, ℕ, ◌-◌, ◌<◌, ◌≤◌, Bool, true, false, List, [], ◌∷◌, ◌++◌, length, take, drop, Some, None, Option, Ok, Err, Result, IsErrAnd, MatchResult, Decides, vec_items, sym, refl, ap, ap₂, ◌∙◌, subst, arith}
 use Rattle.std.proofs.lemmas.Bool.{false≢true}
+use Rattle.std.proofs.lemmas.Result.{err_from_is_err_and}
+use Rattle.std.proofs.Math.Seq.{take-append_seam}
 use Rattle.std.specs.Option.{ok_or}
+use Rattle.text.specs.Cuts.{part}
 use Rattle.text.specs.declared.fault.Fault.{Fault}
 use Rattle.text.specs.declared.fault.Fault.TheVariants.{BadText, TooDeep, NoSpace, RepeatedName, LongNumber, NoMemory}
 use Rattle.model.specs.Values.{Rec, Recs, Rmems, r_list, r_object, r_nil, r_cons, r_end, r_mem, has}
 use Rattle.model.specs.Limits.{NameLimits}
 use Rattle.names.specs.declared.names.Link.{Link}
 use Rattle.names.specs.declared.part.Part.TheVariants.{Text}
-use Rattle.names.specs.Index.{Sound, AddTold, names_from}
-use Rattle.stored.specs.declared.header.Frame.{Frame}
+use Rattle.names.specs.Parts.{PartFits}
+use Rattle.names.specs.Index.{Sound, Added, AddTold, names_from}
+use Rattle.stored.specs.declared.header.Record.{Record}
 use Rattle.stored.specs.declared.reading.Reader.{Reader}
 use Rattle.stored.specs.declared.content.Content.{Content}
 use Rattle.stored.specs.declared.content.Content.TheVariants.{Leaf, List as ListContent, Object}
 use Rattle.stored.specs.declared.content.BodyError.{BodyError}
 use Rattle.stored.specs.declared.content.BodyError.TheVariants.{BadForm, LongNumber as LongBody}
-use Rattle.stored.specs.Frames.{Framed, body_in, FrameAt, FrameTold}
+use Rattle.stored.specs.Frames.{Framed, end_of, RecordAt, RecordTold}
 use Rattle.stored.specs.Contents.{Sensible, a_leaf, a_list, an_object, fault_at, ContentTold}
 use Rattle.stored.specs.Outcomes.{Out, got, fails, as_list, as_object, NameAt, Unnamed, Reads, r_bad, r_long, r_leaf, r_items, r_members, ReadsItems, i_end, i_fails, i_more, ReadsMembers, m_end, m_fails, m_more}
 use Rattle.stored.specs.Told.{Blames, Holds, Same, ValueAt, NewName}
 use Rattle.stored.specs.OneFrame.{one_framed}
+use Rattle.stored.proofs.FrLaws.{ends, within, ends_inside}
+use Rattle.stored.proofs.OutSound.{framed-fills, body_fills}
 
 -- a blame that is passed on
 pub blames_on : (g : Fault) (P Q : Fault → Type 0) → ((f : Fault) → P f → Q f) → Blames g P → Blames g Q
@@ -38,71 +44,89 @@ blamed (RepeatedName k) P x = x
 blamed (LongNumber k) P x = x
 blamed NoMemory P x = tt
 
--- the header that was found, or that there is none
-pub found : {bytes : List ℕ} {i to : ℕ} {o : Option Frame} {h : Frame} → o ≡ Some h → FrameTold bytes i to o → FrameAt bytes i to h
-found {bytes} {i} {to} e f = subst (FrameTold bytes i to) e f
+-- what `?` passes on
+pub passed : {T E : Type 0} {r : Result T E} {e : E} → IsErrAnd r (λ y. y ≡ e) → r ≡ Err e
+passed {r = r} h = let p = err_from_is_err_and r h in p.1 ∙ ap Err p.2
 
-pub ok_or_none : {o : Option Frame} {e f : Fault} → Err e ≡ ok_or o f → o ≡ None → e ≡ f
-ok_or_none {o} {e} {f} v n = let w : ◌≡◌ {A = Result Frame Fault} (Err e) (Err f) = subst (λ x. Err e ≡ ok_or x f) n v in cc
+-- the record that was found, or that there is none
+pub found : {bytes : List ℕ} {i to : ℕ} {o : Option Record} {h : Record} → o ≡ Some h → RecordTold bytes i to o → RecordAt bytes i to h
+found {bytes} {i} {to} e f = subst (RecordTold bytes i to) e f
+
+pub ok_or_none : {o : Option Record} {e f : Fault} → Err e ≡ ok_or o f → o ≡ None → e ≡ f
+ok_or_none {o} {e} {f} v n = let w : ◌≡◌ {A = Result Record Fault} (Err e) (Err f) = subst (λ x. Err e ≡ ok_or x f) n v in cc
 
 -- NAMES
 
-pub other_kind : {bytes : List ℕ} {i to : ℕ} {h : Frame} {r : Bool} → FrameAt bytes i to h → Decides r (h.kind ≡ 8) → r ≡ false → Unnamed bytes i to
+pub other_kind : {bytes : List ℕ} {i to : ℕ} {h : Record} {r : Bool} → RecordAt bytes i to h → Decides r (h.kind ≡ 8) → r ≡ false → Unnamed bytes i to
 other_kind f d e n a = false≢true (sym e ∙ d.1 (one_framed f.framed a.framed).0)
 
-pub not_formed : {bytes xs : List ℕ} {i to : ℕ} {h : Frame} {r : Bool} → FrameAt bytes i to h → xs ≡ body_in bytes h → Decides r (NameLimits xs) → r ≡ false → Unnamed bytes i to
-not_formed f x d e n a = false≢true (sym e ∙ d.1 (subst NameLimits (sym (x ∙ (one_framed f.framed a.framed).1)) a.within))
+pub not_formed : {bytes : List ℕ} {i to : ℕ} {h : Record} {r : Bool} → RecordAt bytes i to h → Decides r (NameLimits h.body.now) → r ≡ false → Unnamed bytes i to
+not_formed f d e n a = false≢true (sym e ∙ d.1 (subst NameLimits (sym (one_framed f.framed a.framed).1) a.within))
 
-pub name_at : {bytes xs : List ℕ} {i to : ℕ} {h : Frame} {r : Bool} → FrameAt bytes i to h → h.kind ≡ 8 → xs ≡ body_in bytes h → Decides r (NameLimits xs) → r ≡ true → NameAt bytes i to (body_in bytes h)
-name_at {bytes} {i = i} {to} {h} f k x d t = record { framed = subst (λ n. Framed bytes i to n (body_in bytes h)) k f.framed; within = subst NameLimits x (d.0 t) }
+pub name_at : {bytes : List ℕ} {i to : ℕ} {h : Record} {r : Bool} → RecordAt bytes i to h → h.kind ≡ 8 → Decides r (NameLimits h.body.now) → r ≡ true → NameAt bytes i to h.body.now
+name_at {bytes} {i = i} {to} {h} f k d t = record { framed = subst (λ n. Framed bytes i to n h.body.now) k f.framed; within = d.0 t }
 
-pub has_it : (bytes : List ℕ) (base : ℕ) (before after : List Link) (h : Frame) (b : Bool) → b ≡ false → AddTold {E = Unit} bytes [] base before after (Text h.from h.end) (Ok b) → h.from ≤ h.end → h.end ≤ length bytes → Sound bytes [] before base → has (names_from bytes [] before base) (body_in bytes h) ≡ true
-has_it bytes base before after h true f t l m s = absurd (false≢true (sym f))
-has_it bytes base before after h false f t l m s = t.1 (l, m) s
+-- the body is what stands where the record says
+body_is : {bytes : List ℕ} {i to : ℕ} {h : Record} → RecordAt bytes i to h → part bytes h.from (end_of h) ≡ h.body.now
+body_is {bytes} {i} {h = h} a =
+    let n : end_of h - h.from ≡ length h.body.now = omega arith in
+    ap₂ (λ (m : ℕ) (xs : List ℕ). take m xs) n (ap (λ k. drop k bytes) a.starts ∙ (body_fills (framed-fills a.framed refl)).there) ∙ take-append_seam h.body.now _
+
+module _ {bytes : List ℕ} {i to e : ℕ} {h : Record} (f : RecordAt bytes i to h) (q : e ≡ end_of h) where
+  cut_is : part bytes h.from e ≡ h.body.now
+  cut_is = ap (λ k. part bytes h.from k) q ∙ body_is f
+
+  fits : PartFits bytes [] (Text h.from e)
+  fits = (omega arith, omega (arith, ends_inside f))
+
+  pub has_it : {base : ℕ} (before after : List Link) (b : Bool) → b ≡ false → AddTold {E = Unit} bytes [] base before after (Text h.from e) (Ok b) → Sound bytes [] before base → has (names_from bytes [] before base) h.body.now ≡ true
+  has_it before after true n t s = absurd (false≢true (sym n))
+  has_it {base} before after false n t s = subst (λ n. has (names_from bytes [] before base) n ≡ true) cut_is (t.1 fits s)
+
+  pub added_it : {base : ℕ} (before after : List Link) (b : Bool) → b ≡ true → AddTold {E = Unit} bytes [] base before after (Text h.from e) (Ok b) → base ≤ length before → Sound bytes [] before base → Added bytes [] base before after h.body.now
+  added_it {base} before after true n t w s = subst (Added bytes [] base before after) cut_is (t w fits s)
+  added_it before after false n t w s = absurd (false≢true n)
 
 -- VALUES
-
-pub content_told : (k : ℕ) {b : List ℕ} (c : List ℕ) {x y : Result Content BodyError} → x ≡ y → b ≡ c → ContentTold k b x → ContentTold k c y
-content_told k c {x} e f t = subst (ContentTold k c) e (subst (λ l. ContentTold k l x) f t)
 
 pub sensible : (k : ℕ) (b : List ℕ) (x : Content) → ContentTold k b (Ok x) → Sensible k b
 sensible k b Leaf t = a_leaf t.0 t.1
 sensible k b ListContent t = a_list t
 sensible k b Object t = an_object t
 
-unfit : {bytes : List ℕ} {i to : ℕ} {h : Frame} (d : ℕ) (e : BodyError) → FrameAt bytes i to h → ContentTold h.kind (body_in bytes h) (Err e) → Reads bytes d i to (fails (fault_at e i))
+unfit : {bytes : List ℕ} {i to : ℕ} {h : Record} (d : ℕ) (e : BodyError) → RecordAt bytes i to h → ContentTold h.kind h.body.now (Err e) → Reads bytes d i to (fails (fault_at e i))
 unfit d BadForm f t = r_bad f.framed t
 unfit d LongBody f t = r_long f.framed t
 
-pub refused_content : {bytes : List ℕ} {i to : ℕ} {h : Frame} (x : Result Content BodyError) {f : Fault} → FrameAt bytes i to h → ContentTold h.kind h.body.now x → MatchResult x (λ y. ⊥) (λ e. f ≡ fault_at e i) → (d : ℕ) → Reads bytes d i to (fails f)
+pub refused_content : {bytes : List ℕ} {i to : ℕ} {h : Record} (x : Result Content BodyError) {f : Fault} → RecordAt bytes i to h → ContentTold h.kind h.body.now x → MatchResult x (λ y. ⊥) (λ e. f ≡ fault_at e i) → (d : ℕ) → Reads bytes d i to (fails f)
 refused_content (Ok y) a t m d = absurd m
-refused_content {h = h} (Err e) a t m d = rw m (unfit d e a (content_told h.kind _ {x = Err e} refl a.whole t))
+refused_content (Err e) a t m d = rw m (unfit d e a t)
 
-pub as_content : {bytes : List ℕ} {i to : ℕ} {h : Frame} {x y : Content} → x ≡ y → Holds bytes i to h x → Holds bytes i to h y
+pub as_content : {bytes : List ℕ} {i to : ℕ} {h : Record} {x y : Content} → x ≡ y → Holds bytes i to h x → Holds bytes i to h y
 as_content {bytes} {i} {to} {h} e f = subst (Holds bytes i to h) e f
 
-pub leaf_read : {bytes : List ℕ} {d i to : ℕ} {h : Frame} → Holds bytes i to h Leaf → 0 < d → ValueAt bytes d i to h.end
-leaf_read (f, l) z = record { value = l.0; reads = r_leaf f.framed l.1 z (sym f.ends); forward = let s = f.starts in let g = f.forward in omega arith; within = f.within }
+pub leaf_read : {bytes : List ℕ} {d i to : ℕ} {h : Record} → Holds bytes i to h Leaf → 0 < d → ValueAt bytes d i to (end_of h)
+leaf_read (f, l) z = record { value = l.0; reads = r_leaf f.framed l.1 z (sym (ends f)); forward = omega (arith, f.starts); within = within f }
 
-module _ {bytes : List ℕ} {d i to : ℕ} {h : Frame} (f : Holds bytes i to h ListContent) (z : 0 < d) where
-  as_items : {q : Out Recs} {o : Out Rec} → as_list q ≡ o → ReadsItems bytes (d - 1) h.from h.end q → Reads bytes d i to o
-  as_items {q} e x = r_items (subst (λ n. Framed bytes i to n (body_in bytes h)) f.1 f.0.framed) z (sym f.0.ends) (subst (λ n. ReadsItems bytes (d - 1) n h.end q) f.0.starts x) e
+module _ {bytes : List ℕ} {d i to : ℕ} {h : Record} (f : Holds bytes i to h ListContent) (z : 0 < d) where
+  as_items : {q : Out Recs} {o : Out Rec} → as_list q ≡ o → ReadsItems bytes (d - 1) h.from (end_of h) q → Reads bytes d i to o
+  as_items {q} e x = r_items (subst (λ n. Framed bytes i to n h.body.now) f.1 f.0.framed) z (sym (ends f.0)) (subst (λ n. ReadsItems bytes (d - 1) n (end_of h) q) f.0.starts x) e
 
-  pub list_read : (rs : Recs) × ReadsItems bytes (d - 1) h.from h.end (got h.end rs) → ValueAt bytes d i to h.end
-  list_read x = record { value = r_list x.0; reads = as_items refl x.1; forward = let s = f.0.starts in let g = f.0.forward in omega arith; within = f.0.within }
+  pub list_read : (rs : Recs) × ReadsItems bytes (d - 1) h.from (end_of h) (got (end_of h) rs) → ValueAt bytes d i to (end_of h)
+  list_read x = record { value = r_list x.0; reads = as_items refl x.1; forward = omega (arith, f.0.starts); within = within f.0 }
 
-  pub list_blamed : (g : Fault) → Blames g (λ x. ReadsItems bytes (d - 1) h.from h.end (fails x)) → Blames g (λ x. Reads bytes d i to (fails x))
-  list_blamed g x = blames_on g (λ y. ReadsItems bytes (d - 1) h.from h.end (fails y)) (λ y. Reads bytes d i to (fails y)) (λ y. as_items refl) x
+  pub list_blamed : (g : Fault) → Blames g (λ x. ReadsItems bytes (d - 1) h.from (end_of h) (fails x)) → Blames g (λ x. Reads bytes d i to (fails x))
+  list_blamed g x = blames_on g (λ y. ReadsItems bytes (d - 1) h.from (end_of h) (fails y)) (λ y. Reads bytes d i to (fails y)) (λ y. as_items refl) x
 
-module _ {bytes : List ℕ} {d i to : ℕ} {h : Frame} (f : Holds bytes i to h Object) (z : 0 < d) where
-  as_members : {q : Out Rmems} {o : Out Rec} → as_object q ≡ o → ReadsMembers bytes (d - 1) [] h.from h.end q → Reads bytes d i to o
-  as_members {q} e x = r_members (subst (λ n. Framed bytes i to n (body_in bytes h)) f.1 f.0.framed) z (sym f.0.ends) (subst (λ n. ReadsMembers bytes (d - 1) [] n h.end q) f.0.starts x) e
+module _ {bytes : List ℕ} {d i to : ℕ} {h : Record} (f : Holds bytes i to h Object) (z : 0 < d) where
+  as_members : {q : Out Rmems} {o : Out Rec} → as_object q ≡ o → ReadsMembers bytes (d - 1) [] h.from (end_of h) q → Reads bytes d i to o
+  as_members {q} e x = r_members (subst (λ n. Framed bytes i to n h.body.now) f.1 f.0.framed) z (sym (ends f.0)) (subst (λ n. ReadsMembers bytes (d - 1) [] n (end_of h) q) f.0.starts x) e
 
-  pub object_read : (ms : Rmems) × ReadsMembers bytes (d - 1) [] h.from h.end (got h.end ms) → ValueAt bytes d i to h.end
-  object_read x = record { value = r_object x.0; reads = as_members refl x.1; forward = let s = f.0.starts in let g = f.0.forward in omega arith; within = f.0.within }
+  pub object_read : (ms : Rmems) × ReadsMembers bytes (d - 1) [] h.from (end_of h) (got (end_of h) ms) → ValueAt bytes d i to (end_of h)
+  object_read x = record { value = r_object x.0; reads = as_members refl x.1; forward = omega (arith, f.0.starts); within = within f.0 }
 
-  pub object_blamed : (g : Fault) → Blames g (λ x. ReadsMembers bytes (d - 1) [] h.from h.end (fails x)) → Blames g (λ x. Reads bytes d i to (fails x))
-  object_blamed g x = blames_on g (λ y. ReadsMembers bytes (d - 1) [] h.from h.end (fails y)) (λ y. Reads bytes d i to (fails y)) (λ y. as_members refl) x
+  pub object_blamed : (g : Fault) → Blames g (λ x. ReadsMembers bytes (d - 1) [] h.from (end_of h) (fails x)) → Blames g (λ x. Reads bytes d i to (fails x))
+  object_blamed g x = blames_on g (λ y. ReadsMembers bytes (d - 1) [] h.from (end_of h) (fails y)) (λ y. Reads bytes d i to (fails y)) (λ y. as_members refl) x
 
 -- ITEMS
 

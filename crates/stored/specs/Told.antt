@@ -5,9 +5,9 @@ use Rattle.text.specs.declared.fault.Fault.TheVariants.{BadText, TooDeep, NoSpac
 use Rattle.model.specs.Values.{Name, Rec, Recs, Rmems}
 use Rattle.names.specs.Index.{Added, names_from}
 use Rattle.stored.specs.declared.reading.Reader.{Reader}
-use Rattle.stored.specs.declared.header.Frame.{Frame}
+use Rattle.stored.specs.declared.header.Record.{Record}
 use Rattle.stored.specs.declared.content.Content.{Content}
-use Rattle.stored.specs.Frames.{past, body_in, FrameAt}
+use Rattle.stored.specs.Frames.{past, RecordAt}
 use Rattle.stored.specs.Contents.{ContentTold}
 use Rattle.stored.specs.Outcomes.{got, fails, NameAt, Reads, ReadsItems, ReadsMembers}
 
@@ -21,13 +21,13 @@ Blames (LongNumber k) P = P (LongNumber k)
 Blames NoMemory P = Unit {0}
 
 -- a record with that content stands at i
-abbrev pub Holds : List ℕ → ℕ → ℕ → Frame → Content → Type 0
-Holds bytes i to h x = FrameAt bytes i to h × ContentTold h.kind (body_in bytes h) (Ok x)
+abbrev pub Holds : List ℕ → ℕ → ℕ → Record → Content → Type 0
+Holds bytes i to h x = RecordAt bytes i to h × ContentTold h.kind h.body.now (Ok x)
 
 -- the record at i, and what it holds; where that is refused, so is the value, however many levels are left
-abbrev pub RecordTold : List ℕ → ℕ → ℕ → Result (Frame × Content) Fault → Type 0
-RecordTold bytes i to (Ok p) = Holds bytes i to p.0 p.1
-RecordTold bytes i to (Err f) = (d : ℕ) → Reads bytes d i to (fails f)
+abbrev pub HoldsTold : List ℕ → ℕ → ℕ → Result (Record × Content) Fault → Type 0
+HoldsTold bytes i to (Ok p) = Holds bytes i to p.0 p.1
+HoldsTold bytes i to (Err f) = (d : ℕ) → Reads bytes d i to (fails f)
 
 -- a value is read from i to e
 pub record ValueAt (bytes : List ℕ) (d i to e : ℕ) : Type 0 where

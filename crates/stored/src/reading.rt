@@ -1,24 +1,25 @@
 // Records read one after another, and checked against their format and its limits.
 ghost use Rattle.std.specs.Prelude.{◌≤◌, [], length};
 ghost use Rattle.names.specs.Index.{Sound};
-ghost use Rattle.stored.specs.Told.{RecordTold, ValueTold, ItemsTold, MembersTold, NameTold};
+ghost use Rattle.stored.specs.Told.{HoldsTold, ValueTold, ItemsTold, MembersTold, NameTold};
 
-use crate::content::{Content, holds, name_form};
-use crate::header::{Frame, header};
+use crate::content::{Content, name_form};
+use crate::header::Record;
 use names::names::Names;
 use names::part::{Holder, Part};
 use text::fault::Fault;
 
 // The record at `at`, which ends no later than `to`, and what it holds.
-fn content_at(bytes: &[u8], at: usize, to: usize) -> Result<(Frame<'_>, Content), Fault>
-    ensures { RecordTold bytes.now at to result }
+fn content_at(bytes: &[u8], at: usize, to: usize) -> Result<(Record<'_>, Content), Fault>
+    ensures { HoldsTold bytes.now at to result }
 {
-    let frame = header(bytes, at, to).ok_or(Fault::BadText(at))?;
-    let content = holds(frame.kind, frame.body).map_err(|error| error.at(at))?;
-    Ok((frame, content))
+    let record = Record::at(bytes, at, to).ok_or(Fault::BadText(at))?;
+    let content = record.content().map_err(|error| error.at(at))?;
+    Ok((record, content))
 }
 
 // The bytes of a sheet, and the names of the members that are being read.
+// The crate `reader` has a `Reader` of texts; neither is seen outside its crate.
 #[derive(Drop)]
 pub(crate) struct Reader<'a> {
     pub bytes: &'a [u8],
@@ -32,19 +33,21 @@ impl Reader<'_> {
     fn value(&mut self, at: usize, to: usize, levels: usize) -> Result<usize, Fault>
         ensures { ValueTold self.old levels at to self.new result }
     {
-        let (frame, content) = content_at(self.bytes, at, to)?;
+        let (record, content) = content_at(self.bytes, at, to)?;
+        let end = record.end();
         if levels == 0 {
             return Err(Fault::TooDeep(at));
         }
         match content {
             Content::Leaf => {}
-            Content::List => self.items(frame.from, frame.end, levels - 1)?,
-            Content::Object => self.members(frame.from, frame.end, levels - 1)?,
+            Content::List => self.items(record.from, end, levels - 1)?,
+            Content::Object => self.members(record.from, end, levels - 1)?,
         }
-        Ok(frame.end)
+        Ok(end)
     }
 
-    // The items of a list from `from` to `to`.
+    // The items of a list from `from` to `to`. `next` moves by what was read and `to` stays:
+    // a `Span` would be taken apart and made again at each record.
     #[cycle(items_members_value)]
     fn items(&mut self, from: usize, to: usize, levels: usize) -> Result<(), Fault>
         requires { from ≤ to }
@@ -79,22 +82,23 @@ impl Reader<'_> {
         requires below { base ≤ length self.old.names.links.items }
         ensures { NameTold self.old at to base self.new result }
     {
-        let frame = header(self.bytes, at, to).ok_or(Fault::BadText(at))?;
-        if !frame.is_name() || !name_form(frame.body) {
+        let record = Record::at(self.bytes, at, to).ok_or(Fault::BadText(at))?;
+        if !record.is_name() || !name_form(record.body) {
             return Err(Fault::BadText(at));
         }
+        let end = record.end();
         let holder = Holder {
             text: self.bytes,
             pool: &[],
         };
         let name = Part::Text {
-            start: frame.from,
-            end: frame.end,
+            start: record.from,
+            end,
         };
         let added = self.names.add(base, holder, name)?;
         if !added {
             return Err(Fault::RepeatedName(at));
         }
-        Ok(frame.end)
+        Ok(end)
     }
 }

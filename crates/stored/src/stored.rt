@@ -11,7 +11,7 @@ ghost use Rattle.stored.specs.Past.{past_at};
 ghost use Rattle.stored.specs.Laws.{StoredTold, ReadsOnce, ReadsBack, AcceptsBack};
 ghost use Rattle.stored.specs.OneTree.{lawful};
 
-use crate::header::{Frame, header, valued};
+use crate::header::Record;
 use crate::reading::Reader;
 use names::names::Names;
 use record::kind::{RecordKind, SCALE};
@@ -39,16 +39,16 @@ struct Target<'a> {
 }
 
 impl<'a> Target<'a> {
-    // The record at `place`, if its frame has a kind.
-    fn new(place: usize, frame: Frame<'a>) -> Option<Target<'a>>
-        ensures { TargetTold place frame.entry result }
+    // The record at `place`, if its number is that of a kind.
+    fn new(place: usize, record: Record<'a>) -> Option<Target<'a>>
+        ensures { TargetTold place record.entry result }
     {
-        let kind = RecordKind::try_from(frame.kind).ok()?;
+        let kind = RecordKind::try_from(record.kind).ok()?;
         Some(Target {
             place,
             kind,
-            from: frame.from,
-            body: frame.body,
+            from: record.from,
+            body: record.body,
         })
     }
 
@@ -113,8 +113,8 @@ impl<'a> Stored<'a> {
                 body: bytes,
             });
         }
-        let (place, frame) = valued(bytes, at, bytes.len())?;
-        Target::new(place, frame)
+        let (place, record) = Record::valued(bytes, at, bytes.len())?;
+        Target::new(place, record)
     }
 }
 
@@ -169,10 +169,10 @@ impl Source for Stored<'_> {
         match self.follow(at) {
             Some(
                 Target {
-                    place: _,
                     kind: RecordKind::List | RecordKind::Object,
                     from,
                     body,
+                    ..
                 },
             ) => Span {
                 from,
@@ -184,19 +184,19 @@ impl Source for Stored<'_> {
 
     fn next(&self, span: Span) -> Option<(usize, Span)> {
         let Span { from, to } = span;
-        let (_, frame) = valued(self.bytes, from, to)?;
+        let (_, record) = Record::valued(self.bytes, from, to)?;
         Some((
             from,
             Span {
-                from: frame.end,
+                from: record.end(),
                 to,
             },
         ))
     }
 
     fn name(&self, at: usize) -> &[u8] {
-        header(self.bytes, at, self.bytes.len())
-            .map(|frame| frame.body)
+        Record::at(self.bytes, at, self.bytes.len())
+            .map(|record| record.body)
             .unwrap_or_default()
     }
 }

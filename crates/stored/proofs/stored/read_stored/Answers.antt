@@ -1,7 +1,7 @@
 use Rattle.std.proofs.Common.{refl, arith}
-use Rattle.std.proofs.lemmas.Result.{err_from_is_err_and}
 use Rattle.text.specs.declared.fault.Fault.TheVariants.{BadText}
 use Rattle.stored.specs.Outcomes.{all_long}
+use Rattle.stored.proofs.RdSteps.{passed}
 use Rattle.stored.proofs.CuOne.{accepted, refused, refused_members}
 use Rattle.stored.proofs.stored.read_stored.Goals as goal
 
@@ -10,8 +10,7 @@ returns-then-bytes-gt-LONGEST_SHEET c = refused c.args.bytes.now (BadText 0) (al
 
 pub returns-in_err-members : goal.returns-in_err-members
 returns-in_err-members c =
-    let p = err_from_is_err_and c.from_residual.result c.from_residual.ensures.1 in
-    rw (p.1, p.2) (refused_members c.args.bytes.now _ (omega arith) c.in_err-members.ensures)
+    rw (passed c.from_residual.ensures.1) (refused_members c.args.bytes.now _ (omega arith) c.in_err-members.ensures)
 
 pub returns : goal.returns
 returns c =

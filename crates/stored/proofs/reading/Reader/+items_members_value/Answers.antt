@@ -1,14 +1,12 @@
 use Rattle.std.proofs.Common.{refl, ◌∙◌, arith}
-use Rattle.std.proofs.lemmas.Result.{err_from_is_err_and}
 use Rattle.stored.specs.Outcomes.{fails, Reads, r_deep}
-use Rattle.stored.proofs.RdSteps.{blamed, sensible, as_content, leaf_read, list_read, object_read, list_blamed, object_blamed, onward, items_step, items_blamed, items_ended, members_step, members_blamed, members_ended}
+use Rattle.stored.proofs.RdSteps.{passed, blamed, sensible, as_content, leaf_read, list_read, object_read, list_blamed, object_blamed, onward, items_step, items_blamed, items_ended, members_step, members_blamed, members_ended}
 use Rattle.stored.proofs.reading.Reader.+items_members_value.Goals as goal
 
 pub items-returns-in_err-next : goal.items-returns-in_err-next
 items-returns-in_err-next t c =
-    let p = err_from_is_err_and c.from_residual.result c.from_residual.ensures.1 in
     let i = c.loop-next.invariant in
-    rw (p.1, p.2) (items_blamed i.0 c.loop-next-test.true _ (rw i.1.bytes at c.in_err-next.ensures))
+    rw (passed c.from_residual.ensures.1) (items_blamed i.0 c.loop-next-test.true _ (rw i.1.bytes at c.in_err-next.ensures))
 
 pub items-loop-next-preserved : goal.items-loop-next-preserved
 items-loop-next-preserved t c =
@@ -23,11 +21,10 @@ items-returns t c =
 
 pub members-returns-in_err-next : goal.members-returns-in_err-next
 members-returns-in_err-next t c =
-    let p = err_from_is_err_and c.from_residual-in_err-next.result c.from_residual-in_err-next.ensures.1 in
     let i = c.loop-next.invariant in
     let n = c.in_ok-onward.ensures in
     let v = rw n.same at c.in_err-next.ensures in
-    rw (p.1, p.2, ← i.1) (members_blamed i.0 c.loop-next-test.true n _ v)
+    rw (passed c.from_residual-in_err-next.ensures.1, ← i.1) (members_blamed i.0 c.loop-next-test.true n _ v)
 
 pub members-loop-next-preserved : goal.members-loop-next-preserved
 members-loop-next-preserved t c =
@@ -42,37 +39,34 @@ members-returns t c =
     let i = c.loop-next.invariant in
     (rw (← i.1) (members_ended i.0 c.loop-next-test.false), record { bytes = i.1; names = c.close.ensures ∙ i.0.below })
 
-pub value-returns-in_err-frame : goal.value-returns-in_err-frame
-value-returns-in_err-frame t c =
-    let p = err_from_is_err_and c.from_residual.result c.from_residual.ensures.1 in
-    rw (p.1, p.2) (blamed c.in_err-frame.field-0.0 (λ g. Reads c.args.self.now.bytes.now c.args.levels c.args.at c.args.to (fails g)) (c.in_err-frame.ensures c.args.levels))
+pub value-returns-in_err-record : goal.value-returns-in_err-record
+value-returns-in_err-record t c =
+    rw (passed c.from_residual.ensures.1) (blamed c.in_err-record.field-0.0 (λ g. Reads c.args.self.now.bytes.now c.args.levels c.args.at c.args.to (fails g)) (c.in_err-record.ensures c.args.levels))
 
 pub value-returns-then-levels-eq0 : goal.value-returns-then-levels-eq0
 value-returns-then-levels-eq0 t c =
-    let f = c.in_ok-frame.ensures in
-    r_deep f.0.framed (sensible _ _ c.in_ok-frame.content f.1) c.if-levels-eq0.true
+    let f = c.in_ok-record.ensures in
+    r_deep f.0.framed (sensible _ _ c.in_ok-record.content f.1) c.if-levels-eq0.true
 
 pub value-returns-in_err-items-in-List : goal.value-returns-in_err-items-in-List
 value-returns-in_err-items-in-List t c =
-    let f = as_content c.in-List.is c.in_ok-frame.ensures in
-    let p = err_from_is_err_and c.from_residual-in_err-items-in-List.result c.from_residual-in_err-items-in-List.ensures.1 in
-    rw (p.1, p.2) (list_blamed f (omega arith) _ c.in_err-items-in-List.ensures)
+    let f = as_content c.in-List.is c.in_ok-record.ensures in
+    rw (passed c.from_residual-in_err-items-in-List.ensures.1) (list_blamed f (omega arith) _ (rw c.end-end.ensures at c.in_err-items-in-List.ensures))
 
 pub value-returns-in_err-members-in-Object : goal.value-returns-in_err-members-in-Object
 value-returns-in_err-members-in-Object t c =
-    let f = as_content c.in-Object.is c.in_ok-frame.ensures in
-    let p = err_from_is_err_and c.from_residual-in_err-members-in-Object.result c.from_residual-in_err-members-in-Object.ensures.1 in
-    rw (p.1, p.2) (object_blamed f (omega arith) _ c.in_err-members-in-Object.ensures)
+    let f = as_content c.in-Object.is c.in_ok-record.ensures in
+    rw (passed c.from_residual-in_err-members-in-Object.ensures.1) (object_blamed f (omega arith) _ (rw c.end-end.ensures at c.in_err-members-in-Object.ensures))
 
 pub value-returns-in-Leaf : goal.value-returns-in-Leaf
-value-returns-in-Leaf t c = (leaf_read (as_content c.in-Leaf.is c.in_ok-frame.ensures) (omega arith), record { bytes = refl; names = refl })
+value-returns-in-Leaf t c = (rw c.end-end.ensures (leaf_read (as_content c.in-Leaf.is c.in_ok-record.ensures) (omega arith)), record { bytes = refl; names = refl })
 
 pub value-returns-in_ok-items-in-List : goal.value-returns-in_ok-items-in-List
 value-returns-in_ok-items-in-List t c =
     let x = c.in_ok-items-in-List.ensures in
-    (list_read (as_content c.in-List.is c.in_ok-frame.ensures) (omega arith) x.0, x.1)
+    (rw c.end-end.ensures (list_read (as_content c.in-List.is c.in_ok-record.ensures) (omega arith) (rw c.end-end.ensures at x.0)), x.1)
 
 pub value-returns-in_ok-members-in-Object : goal.value-returns-in_ok-members-in-Object
 value-returns-in_ok-members-in-Object t c =
     let x = c.in_ok-members-in-Object.ensures in
-    (object_read (as_content c.in-Object.is c.in_ok-frame.ensures) (omega arith) x.0, x.1)
+    (rw c.end-end.ensures (object_read (as_content c.in-Object.is c.in_ok-record.ensures) (omega arith) (rw c.end-end.ensures at x.0)), x.1)

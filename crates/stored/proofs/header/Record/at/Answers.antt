@@ -1,6 +1,6 @@
 use Rattle.std.proofs.Common.{refl, arith}
 use Rattle.stored.proofs.FrLaws.{frame_in, overlong}
-use Rattle.stored.proofs.header.header.Goals as goal
+use Rattle.stored.proofs.header.Record.at.Goals as goal
 
 pub returns : goal.returns
 returns c =
@@ -9,7 +9,7 @@ returns c =
     frame_in bytes c.in_ok-get.field-0.now c.args.at c.args.to c.min-to.result c.from_le_bytes-size.result _
     (record { is = g.2; long = g.3; within = g.1 }) (omega arith) c.in-0.len_at_least
     (record { s0 = (c.type_inv.bytes c.args.at).fits; s1 = (c.type_inv.bytes _).fits; s2 = (c.type_inv.bytes _).fits; s3 = (c.type_inv.bytes _).fits })
-    c.from_le_bytes-size.ensures (grind arith) (grind arith) refl refl refl refl
+    c.from_le_bytes-size.ensures (grind arith) (grind arith) refl refl refl
 
 pub returns-then-size-rest : goal.returns-then-size-rest
 returns-then-size-rest c =
