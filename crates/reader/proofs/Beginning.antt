@@ -57,13 +57,13 @@ pub begins_not : {s : ℕ} {x : Lexical} {t : Raw} (y : Lexical) → x ≡ y →
 begins_not y e f s = true≢false (sym (starts_begins s) ∙ ap beginning e ∙ f)
 
 -- a token of the program that begins none
-pub no_start : (language : Language) (text : List ℕ) (i j s : ℕ) (x : Lexical) (t : Token) → (t ≡ Dollar → ⊥) → (t ≡ OpenBracket → ⊥) → (t ≡ OpenBrace → ⊥) → ((w : denote.Ref.Bor (List ℕ)) → t ≡ Name w → ⊥) → ((k : NumberKind) (w : denote.Ref.Bor (List ℕ)) → t ≡ Number k w → ⊥) → ((w : denote.Ref.Bor (List ℕ)) (p : Bool) → t ≡ Text w p → ⊥)
+pub no_start : (language : Language) (text : List ℕ) (i j s : ℕ) (x : Lexical) (t : Token) → (t ≡ Dollar → ⊥) → (t ≡ OpenBracket → ⊥) → (t ≡ OpenBrace → ⊥) → ((w : denote.Ref.Bor (List ℕ)) → t ≡ Name w → ⊥) → ((w : denote.Ref.Bor (List ℕ)) (k : NumberKind) → t ≡ Number w k → ⊥) → ((w : denote.Ref.Bor (List ℕ)) (p : Bool) → t ≡ Text w p → ⊥)
     → Holds language text i j (view_of t) x → (u : Raw) → Starts s x u → ⊥
 no_start language text i j s x Dollar a b c d e f h u st = a refl
 no_start language text i j s x OpenBracket a b c d e f h u st = b refl
 no_start language text i j s x OpenBrace a b c d e f h u st = c refl
 no_start language text i j s x (Name w) a b c d e f h u st = d w refl
-no_start language text i j s x (Number k w) a b c d e f h u st = e k w refl
+no_start language text i j s x (Number w k) a b c d e f h u st = e w k refl
 no_start language text i j s x (Text w p) a b c d e f h u st = f w p refl
 no_start language text i j s x End a b c d e f h u st = begins_not the_end h.0 refl st
 no_start language text i j s x _ a b c d e f h u st = begins_not _ h refl st

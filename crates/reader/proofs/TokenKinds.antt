@@ -83,7 +83,7 @@ start_some {language} {text} {l} k s = k.some (goes l.token (λ n. begins_not th
 -- what follows a dollar sign, where it is no name
 pub no_variable : (language : Language) (text : List ℕ) (i j : ℕ) (x : Lexical) (t : Token) (s b e : ℕ) → ((w : denote.Ref.Bor (List ℕ)) → t ≡ Name w → ⊥) → Holds language text i j (view_of t) x → as_variable s (sees b e x) ≡ fails (BadText b)
 no_variable language text i j x (Name w) s b e n h = absurd (n w refl)
-no_variable language text i j x (Number k w) s b e n h = ap (λ y. as_variable s (sees b e y)) h.0
+no_variable language text i j x (Number w k) s b e n h = ap (λ y. as_variable s (sees b e y)) h.0
 no_variable language text i j x (Text w p) s b e n h = ap (λ y. as_variable s (sees b e y)) h.1.1
 no_variable language text i j x End s b e n h = ap (λ y. as_variable s (sees b e y)) h.0
 no_variable language text i j x _ s b e n h = ap (λ y. as_variable s (sees b e y)) h

@@ -105,7 +105,7 @@ impl<'a, W: Written> Reader<'a, W> {
             // Its name is read once the depth is judged: till then the empty part after the sign.
             Token::Dollar => Ok(Content::Variable(Part::Text { start: end, end })),
             Token::Name(word) => Ok(word_content(word, start, end)),
-            Token::Number(kind, spelled) => match kind {
+            Token::Number(spelled, kind) => match kind {
                 NumberKind::Whole => Ok(whole_content(spelled, end)),
                 NumberKind::Decimal => decimal_content(spelled, pool),
             },

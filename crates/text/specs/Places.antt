@@ -20,7 +20,7 @@ is_end Pipe = false
 is_end CloseBrace = false
 is_end Comma = false
 is_end (Name s) = false
-is_end (Number k s) = false
+is_end (Number s k) = false
 is_end (Text s p) = false
 is_end End = true
 

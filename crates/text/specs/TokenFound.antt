@@ -39,7 +39,7 @@ view_of Pipe = v_mark pipe
 view_of CloseBrace = v_mark close_brace
 view_of Comma = v_mark comma
 view_of (Name s) = v_name s.now
-view_of (Number k s) = v_number k s.now
+view_of (Number s k) = v_number k s.now
 view_of (Text s p) = v_text s.now p
 view_of End = v_end
 

@@ -27,7 +27,8 @@ pub enum Token<'a> {
     CloseBrace,
     Comma,
     Name(&'a [u8]),
-    Number(NumberKind, &'a [u8]),
+    // The bytes first, as in the other variants that have some: the token is copied about in fewer instructions.
+    Number(&'a [u8], NumberKind),
     Text { raw: &'a [u8], plain: bool },
     End,
 }
@@ -66,12 +67,14 @@ impl<'a> Lexeme<'a> {
 }
 
 // The number that begins at `start`, whatever follows it.
+// Inlined, so that what finds a token keeps its answer in registers.
+#[inline(always)]
 pub(crate) fn numeral(text: &[u8], start: usize) -> Result<Lexeme<'_>, Fault>
     ensures { NumeralTold text.now start result }
 {
     let (end, kind) = number::scan(text, start)?;
     Ok(Lexeme {
-        token: Token::Number(kind, &text[start..end]),
+        token: Token::Number(&text[start..end], kind),
         start,
         end,
     })

@@ -18,7 +18,7 @@ use Rattle.reader.proofs.reading.Reader.content_of.Goals as goal
 pub decimal_content-requires : goal.decimal_content-requires
 decimal_content-requires g c =
     let k = c.requires in
-    let h = holds_as k (Number Decimal c.in-Number.spelled) (c.in-Number.is ∙ ap (λ (k : NumberKind). Number k c.in-Number.spelled) c.in-Decimal.is) in
+    let h = holds_as k (Number c.in-Number.spelled Decimal) (c.in-Number.is ∙ ap (λ (k : NumberKind). Number c.in-Number.spelled k) c.in-Decimal.is) in
     token_numeral g.W.Written.LANGUAGE _ _ _ _ (subst (λ (x : Lexical). TokenOf g.W.Written.LANGUAGE (drop c.args.lexeme.start c.args.self.text.now) x (drop c.args.lexeme.end c.args.self.text.now)) h.0 k.reads)
 
 pub returns-in_err-text-in-Text : goal.returns-in_err-text-in-Text
@@ -54,12 +54,12 @@ returns-in-Name g c k =
 
 pub returns-in-Whole : goal.returns-in-Whole
 returns-in-Whole g c k =
-    let h = holds_as k (Number Whole c.in-Number.spelled) (c.in-Number.is ∙ ap (λ (k : NumberKind). Number k c.in-Number.spelled) c.in-Whole.is) in
+    let h = holds_as k (Number c.in-Number.spelled Whole) (c.in-Number.is ∙ ap (λ (k : NumberKind). Number c.in-Number.spelled k) c.in-Whole.is) in
     leaf_start h.0 (c.whole_content.ensures c.args.self.text.now _ c.args.lexeme.start k.ordered k.within h.1)
 
 pub returns-in-Decimal : goal.returns-in-Decimal
 returns-in-Decimal g c k =
-    let h = holds_as k (Number Decimal c.in-Number.spelled) (c.in-Number.is ∙ ap (λ (k : NumberKind). Number k c.in-Number.spelled) c.in-Decimal.is) in
+    let h = holds_as k (Number c.in-Number.spelled Decimal) (c.in-Number.is ∙ ap (λ (k : NumberKind). Number c.in-Number.spelled k) c.in-Decimal.is) in
     leaf_told c.args.self.text.now _ _ _ _ _ _ h.0 (c.decimal_content.ensures c.args.self.text.now c.args.lexeme.start)
 
 pub returns-in_ok-text-in-Text : goal.returns-in_ok-text-in-Text
