@@ -20,6 +20,8 @@ use text::{decimal, graphql, json, string};
 
 // A name from `start` to `end`: null, a boolean or an enum value.
 // It compares, since the facts of a match on byte strings have no names that a proof could cite.
+// Inlined, as `decimal_content` is: LLVM would leave them apart where both languages are read.
+#[inline(always)]
 fn word_content(word: &[u8], start: usize, end: usize) -> Content
     ensures { (text pool : List ℕ) → start ≤ end → end ≤ length text → word.now ≡ cut_out text start end → LeafContent text pool pool start (a_name word.now) result }
 {
@@ -43,6 +45,7 @@ fn whole_content(spelled: &[u8], end: usize) -> Content
 }
 
 // A decimal, whose digits in normal form are added to the pool.
+#[inline(always)]
 fn decimal_content(spelled: &[u8], pool: &mut Vec<u8>) -> Result<Content, Fault>
     requires { Numeral spelled.now Decimal }
     ensures { (text : List ℕ) (start : ℕ) → LeafTold text pool.old.items pool.new.items start (a_number Decimal spelled.now) result }

@@ -65,8 +65,6 @@ pub trait Source: Sized {
 
     ghost members: { Self → Span → Mems → Type 0 };
 
-    ghost laws: { Lawful stands };
-
     // Answers FORM.
     fn written(&self) -> Language
         ensures { result ≡ form };
@@ -109,6 +107,9 @@ pub trait Source: Sized {
     // The name of the member whose value stands at the cursor.
     fn name(&self, at: usize) -> &[u8]
         ensures { (n : Bytes ℕ) → named self.now at n → result.now ≡ n };
+
+    // One tree at most stands at a cursor, within the limits of a source.
+    ghost laws: { Lawful stands };
 
     // The value of the member with that name.
     // `final`, as `values` is: a body that may be replaced cannot pass `Self` on to a bound on `Source`.

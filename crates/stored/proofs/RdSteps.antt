@@ -1,7 +1,6 @@
 -- What the turns of reading keep.
 use Rattle.std.proofs.Common.{◌≡◌, ℕ, ◌-◌, ◌<◌, ◌≤◌, Bool, true, false, List, [], ◌∷◌, ◌++◌, length, take, drop, Some, None, Option, Ok, Err, Result, IsErrAnd, MatchResult, Decides, vec_items, sym, refl, ap, ap₂, ◌∙◌, subst, arith}
 use Rattle.std.proofs.lemmas.Bool.{false≢true}
-use Rattle.std.proofs.lemmas.Result.{err_from_is_err_and}
 use Rattle.std.proofs.Math.Seq.{take-append_seam}
 use Rattle.std.specs.Option.{ok_or}
 use Rattle.text.specs.Cuts.{part}
@@ -43,10 +42,6 @@ blamed (NoSpace k) P x = x
 blamed (RepeatedName k) P x = x
 blamed (LongNumber k) P x = x
 blamed NoMemory P x = tt
-
--- what `?` passes on
-pub passed : {T E : Type 0} {r : Result T E} {e : E} → IsErrAnd r (λ y. y ≡ e) → r ≡ Err e
-passed {r = r} h = let p = err_from_is_err_and r h in p.1 ∙ ap Err p.2
 
 -- the record that was found, or that there is none
 pub found : {bytes : List ℕ} {i to : ℕ} {o : Option Record} {h : Record} → o ≡ Some h → RecordTold bytes i to o → RecordAt bytes i to h

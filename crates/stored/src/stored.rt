@@ -40,15 +40,15 @@ struct Target<'a> {
 
 impl<'a> Target<'a> {
     // The record at `place`, if its number is that of a kind.
-    fn new(place: usize, record: Record<'a>) -> Option<Target<'a>>
-        ensures { TargetTold place record.entry result }
+    fn new(place: usize, found: Record<'a>) -> Option<Target<'a>>
+        ensures { TargetTold place found.entry result }
     {
-        let kind = RecordKind::try_from(record.kind).ok()?;
+        let kind = RecordKind::try_from(found.kind).ok()?;
         Some(Target {
             place,
             kind,
-            from: record.from,
-            body: record.body,
+            from: found.from,
+            body: found.body,
         })
     }
 

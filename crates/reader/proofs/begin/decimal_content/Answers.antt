@@ -1,5 +1,5 @@
 use Rattle.std.proofs.Common.{◌≡◌, ℕ, List, length, Err, vec_items, refl, ◌∙◌}
-use Rattle.reader.proofs.Faults.{handed_on}
+use Rattle.text.proofs.Handed.{handed_on}
 use Rattle.text.specs.declared.fault.Fault.{Fault}
 use Rattle.text.specs.declared.fault.Fault.TheVariants.{LongNumber, NoMemory}
 use Rattle.text.specs.declared.number.NumberKind.TheVariants.{Decimal as DecimalNumber}
@@ -19,7 +19,7 @@ only_memory ds before after k _ n t = absurd t
 
 pub returns-in_err-scale : goal.returns-in_err-scale
 returns-in_err-scale c text start =
-    rw (handed_on c.from_residual.result c.from_residual.ensures.1) (only_memory _ _ _ _ _ c.requires c.in_err-scale.ensures)
+    rw (handed_on c.from_residual.ensures.1) (only_memory _ _ _ _ _ c.requires c.in_err-scale.ensures)
 
 pub returns : goal.returns
 returns c text start name =

@@ -1,7 +1,7 @@
 use Rattle.std.proofs.Common.{refl, arith}
 use Rattle.text.specs.declared.fault.Fault.TheVariants.{BadText}
 use Rattle.stored.specs.Outcomes.{all_long}
-use Rattle.stored.proofs.RdSteps.{passed}
+use Rattle.text.proofs.Handed.{handed_on}
 use Rattle.stored.proofs.CuOne.{accepted, refused, refused_members}
 use Rattle.stored.proofs.stored.read_stored.Goals as goal
 
@@ -10,7 +10,7 @@ returns-then-bytes-gt-LONGEST_SHEET c = refused c.args.bytes.now (BadText 0) (al
 
 pub returns-in_err-members : goal.returns-in_err-members
 returns-in_err-members c =
-    rw (passed c.from_residual.ensures.1) (refused_members c.args.bytes.now _ (omega arith) c.in_err-members.ensures)
+    rw (handed_on c.from_residual.ensures.1) (refused_members c.args.bytes.now _ (omega arith) c.in_err-members.ensures)
 
 pub returns : goal.returns
 returns c =

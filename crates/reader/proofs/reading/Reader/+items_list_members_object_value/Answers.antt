@@ -1,5 +1,6 @@
 use Rattle.std.proofs.Common.{◌≡◌, ℕ, ControlFlow, ◌-◌, ◌≤◌, [], ◌∷◌, ◌++◌, length, take, List, Ok, Result, vec_items, sym, refl, ap, ◌∙◌, subst, arith}
-use Rattle.reader.proofs.Faults.{handed_on, blames_all, blames_map}
+use Rattle.text.proofs.Handed.{handed_on}
+use Rattle.reader.proofs.Faults.{blames_all, blames_map}
 use Rattle.model.specs.Values.{list, object, variable, nil, end, place_of}
 use Rattle.names.specs.declared.names.Link.{Link}
 use Rattle.names.specs.declared.names.Names.{Names}
@@ -23,7 +24,7 @@ use Rattle.reader.proofs.reading.Reader.+items_list_members_object_value.Goals.{
 pub items-returns-in_err-first : goal.items-returns-in_err-first
 items-returns-in_err-first g t c =
     let s = c.in_err-first.ensures in
-    rw (handed_on c.from_residual.result c.from_residual.ensures.1) (blames_all (λ f. ReadsList _ _ _ _ _ (fails f)) _ (rl_items {v = blind c.in_err-first.field-0.0} s refl (ri_fails (r_blind s))))
+    rw (handed_on c.from_residual.ensures.1) (blames_all (λ f. ReadsList _ _ _ _ _ (fails f)) _ (rl_items {v = blind c.in_err-first.field-0.0} s refl (ri_fails (r_blind s))))
 
 pub items-returns-then-eq : goal.items-returns-then-eq
 items-returns-then-eq g t c =
@@ -44,7 +45,7 @@ items-fail g t c f r =
 
 pub items-returns-in_err-end : goal.items-returns-in_err-end
 items-returns-in_err-end g t c =
-    rw (handed_on c.from_residual-in_err-end.result c.from_residual-in_err-end.ensures.1)
+    rw (handed_on c.from_residual-in_err-end.ensures.1)
     (blames_map (ValueFails (manner_of g.W.Written.LANGUAGE c.args.self) c.args.self.text.now c.args.levels c.loop-end.next) (ListFails (manner_of g.W.Written.LANGUAGE c.args.self) c.args.self.text.now c.args.levels c.args.at)
     (λ f r. items-fail g t (goal.at.items-returns-in_err-end g t c).At-loop-end f (ri_fails r)) _ c.in_err-end.ensures)
 
@@ -52,7 +53,7 @@ pub items-returns-in_err-at : goal.items-returns-in_err-at
 items-returns-in_err-at g t c =
     let a = c.in_ok-end.ensures in
     let s = c.in_err-at.ensures close_bracket refl in
-    rw (handed_on c.from_residual-in_err-at.result c.from_residual-in_err-at.ensures.1) (blames_all (ListFails (manner_of g.W.Written.LANGUAGE c.args.self) c.args.self.text.now c.args.levels c.args.at) _ (items-fail g t (goal.at.items-returns-in_err-at g t c).At-loop-end _ (ri_halts {v = s.0} a.reads s.1 s.2)))
+    rw (handed_on c.from_residual-in_err-at.ensures.1) (blames_all (ListFails (manner_of g.W.Written.LANGUAGE c.args.self) c.args.self.text.now c.args.levels c.args.at) _ (items-fail g t (goal.at.items-returns-in_err-at g t c).At-loop-end _ (ri_halts {v = s.0} a.reads s.1 s.2)))
 
 pub items-loop-end-preserved : goal.items-loop-end-preserved
 items-loop-end-preserved g t c =
@@ -73,7 +74,7 @@ items-returns-in-Break g t c =
 
 pub list-returns-in_err-end : goal.list-returns-in_err-end
 list-returns-in_err-end g t c i name o =
-    rw (handed_on c.from_residual-in_err-end.result c.from_residual-in_err-end.ensures.1)
+    rw (handed_on c.from_residual-in_err-end.ensures.1)
     (blames_map (ListFails (manner_of g.W.Written.LANGUAGE c.args.self) c.args.self.text.now (c.args.levels - 1) c.args.at) (ValueFails (manner_of g.W.Written.LANGUAGE c.args.self) c.args.self.text.now c.args.levels i)
     (λ f r. r_list o.seen c.requires.room r refl) _ c.in_err-end.ensures)
 
@@ -92,7 +93,7 @@ list-returns g t c i name o =
 pub members-returns-in_err-first : goal.members-returns-in_err-first
 members-returns-in_err-first g t c =
     let s = c.in_err-first.ensures in
-    rw (handed_on c.from_residual.result c.from_residual.ensures.1) (blames_all (λ f. ReadsObject _ _ _ _ _ (fails f)) _ (ro_members {v = blind c.in_err-first.field-0.0} s refl (rm_unnamed (na_blind s))))
+    rw (handed_on c.from_residual.ensures.1) (blames_all (λ f. ReadsObject _ _ _ _ _ (fails f)) _ (ro_members {v = blind c.in_err-first.field-0.0} s refl (rm_unnamed (na_blind s))))
 
 pub members-returns-then-eq : goal.members-returns-then-eq
 members-returns-then-eq g t c =
@@ -117,7 +118,7 @@ members-fail g t c f r =
 pub members-returns-in_err-name : goal.members-returns-in_err-name
 members-returns-in_err-name g t c =
     let i = c.loop-name.invariant in
-    rw (handed_on c.from_residual-in_err-name.result c.from_residual-in_err-name.ensures.1)
+    rw (handed_on c.from_residual-in_err-name.ensures.1)
     (blames_map (NameFails (manner_of g.W.Written.LANGUAGE c.args.self) c.args.self.text.now i.0 c.loop-name.next) (ObjectFails (manner_of g.W.Written.LANGUAGE c.args.self) c.args.self.text.now c.args.levels c.args.at)
     (λ f n. members-fail g t (goal.at.members-returns-in_err-name g t c).At-loop-name f (rm_unnamed n)) _ (c.in_err-name.ensures.told i.0 i.2))
 
@@ -125,7 +126,7 @@ pub members-returns-in_err-end : goal.members-returns-in_err-end
 members-returns-in_err-end g t c =
     let i = c.loop-name.invariant in
     let r = c.in_ok-name.ensures.told i.0 i.2 in
-    rw (handed_on c.from_residual-in_err-end.result c.from_residual-in_err-end.ensures.1)
+    rw (handed_on c.from_residual-in_err-end.ensures.1)
     (blames_map (ValueFails (manner_of g.W.Written.LANGUAGE c.args.self) c.args.self.text.now c.args.levels c.in_ok-name.onward) (ObjectFails (manner_of g.W.Written.LANGUAGE c.args.self) c.args.self.text.now c.args.levels c.args.at)
     (λ f n. members-fail g t (goal.at.members-returns-in_err-end g t c).At-loop-name f (rm_fails r.reads n)) _ c.in_err-end.ensures)
 
@@ -135,7 +136,7 @@ members-returns-in_err-at g t c =
     let r = c.in_ok-name.ensures.told i.0 i.2 in
     let a = c.in_ok-end.ensures in
     let s = c.in_err-at.ensures close_brace refl in
-    rw (handed_on c.from_residual-in_err-at.result c.from_residual-in_err-at.ensures.1) (blames_all (ObjectFails (manner_of g.W.Written.LANGUAGE c.args.self) c.args.self.text.now c.args.levels c.args.at) _ (members-fail g t (goal.at.members-returns-in_err-at g t c).At-loop-name _ (rm_halts {v = s.0} r.reads a.reads s.1 s.2)))
+    rw (handed_on c.from_residual-in_err-at.ensures.1) (blames_all (ObjectFails (manner_of g.W.Written.LANGUAGE c.args.self) c.args.self.text.now c.args.levels c.args.at) _ (members-fail g t (goal.at.members-returns-in_err-at g t c).At-loop-name _ (rm_halts {v = s.0} r.reads a.reads s.1 s.2)))
 
 pub members-loop-name-preserved : goal.members-loop-name-preserved
 members-loop-name-preserved g t c =
@@ -174,7 +175,7 @@ members-returns-in-Break g t c =
 
 pub object-returns-in_err-end : goal.object-returns-in_err-end
 object-returns-in_err-end g t c i name o =
-    rw (handed_on c.from_residual-in_err-end.result c.from_residual-in_err-end.ensures.1)
+    rw (handed_on c.from_residual-in_err-end.ensures.1)
     (blames_map (ObjectFails (manner_of g.W.Written.LANGUAGE c.args.self) c.args.self.text.now (c.args.levels - 1) c.args.at) (ValueFails (manner_of g.W.Written.LANGUAGE c.args.self) c.args.self.text.now c.args.levels i)
     (λ f r. r_object o.seen c.requires.room r refl) _ c.in_err-end.ensures)
 

@@ -1,6 +1,6 @@
 use Rattle.std.proofs.Common.{◌≡◌, ◌-◌, [], take, drop, refl, ap, ◌∙◌, subst, arith}
 use lib.Utf8.{encodes}
-use Rattle.reader.proofs.Faults.{handed_on}
+use Rattle.text.proofs.Handed.{handed_on}
 use Rattle.model.specs.Values.{list, object, variable, scalar, string, nil, end}
 use Rattle.source.specs.declared.nodes.Content.TheVariants.{List as ListContent, Object, Variable, String}
 use Rattle.names.specs.declared.part.Part.TheVariants.{Text as TextPart}
@@ -24,7 +24,7 @@ decimal_content-requires g c =
 pub returns-in_err-text-in-Text : goal.returns-in_err-text-in-Text
 returns-in_err-text-in-Text g c k =
     let h = holds_as k (Text c.in-Text.raw c.in-Text.plain) c.in-Text.is in
-    rw (handed_on c.from_residual.result c.from_residual.ensures.1) (no_memory c.args.self.text.now [] [] c.args.lexeme.start k.token _ (c.in_err-text-in-Text.ensures h.1.0 h.0 h.1.2))
+    rw (handed_on c.from_residual.ensures.1) (no_memory c.args.self.text.now [] [] c.args.lexeme.start k.token _ (c.in_err-text-in-Text.ensures h.1.0 h.0 h.1.2))
 
 pub returns-in-OpenBracket : goal.returns-in-OpenBracket
 returns-in-OpenBracket g c k =

@@ -2,7 +2,8 @@ use Rattle.std.proofs.Common.{◌≡◌, ◌≤◌, ◌∙◌, false, List, [], 
 use Rattle.std.proofs.Math.Option.{some}
 use Rattle.model.specs.Values.{Name}
 use Rattle.std.proofs.lemmas.Bool.{not-true, not-false}
-use Rattle.reader.proofs.Faults.{handed_on, blames_all, blames_map}
+use Rattle.text.proofs.Handed.{handed_on}
+use Rattle.reader.proofs.Faults.{blames_all, blames_map}
 use Rattle.text.specs.declared.token.Token.TheVariants.{Colon}
 use Rattle.text.specs.TokenGrammar.{colon}
 use Rattle.reader.specs.Tokens.{Sight, Sights, sees, blind}
@@ -18,13 +19,13 @@ use Rattle.reader.proofs.reading.Reader.member_name.Goals.{In_ok-name, Else-len-
 
 pub returns-in_err-lexeme-clause-told : goal.returns-in_err-lexeme-clause-told
 returns-in_err-lexeme-clause-told g c ns h =
-    rw (handed_on c.from_residual.result c.from_residual.ensures.1) (blames_all (NameFails (manner_of g.W.Written.LANGUAGE c.args.self) c.args.self.text.now ns c.args.at) _ (na_blind c.in_err-lexeme.ensures))
+    rw (handed_on c.from_residual.ensures.1) (blames_all (NameFails (manner_of g.W.Written.LANGUAGE c.args.self) c.args.self.text.now ns c.args.at) _ (na_blind c.in_err-lexeme.ensures))
 
 pub returns-in_err-name-clause-told : goal.returns-in_err-name-clause-told
 returns-in_err-name-clause-told g c ns h =
     let k = c.in_ok-lexeme.ensures in
     let P = NameFails (manner_of g.W.Written.LANGUAGE c.args.self) c.args.self.text.now ns c.args.at in
-    rw (handed_on c.from_residual-in_err-name.result c.from_residual-in_err-name.ensures.1) (blames_map _ P (λ f e. subst P (sym e.0) (na_none k.seen e.1)) _ (c.in_err-name.ensures k.lexed))
+    rw (handed_on c.from_residual-in_err-name.ensures.1) (blames_map _ P (λ f e. subst P (sym e.0) (na_none k.seen e.1)) _ (c.in_err-name.ensures k.lexed))
 
 -- the name that the token is
 named : (g : Over) (c : In_ok-name g) → (n : Name) × (name_of g.W.Written.LANGUAGE c.in_ok-lexeme.ensures.lexed.token ≡ some n) × PartFor c.args.self.text.now (vec_items c.args.nodes.now.pool) (vec_items c.name_part.new.pool) n c.in_ok-name.name
@@ -60,7 +61,7 @@ module _ (g : Over) (c : Else-not-branch g) (ns : List Name) (h : NamesHeld c.ar
 
 pub returns-in_err-colon-clause-told : goal.returns-in_err-colon-clause-told
 returns-in_err-colon-clause-told g c ns h =
-    rw (handed_on c.from_residual-in_err-colon.result c.from_residual-in_err-colon.ensures.1)
+    rw (handed_on c.from_residual-in_err-colon.ensures.1)
     (blames_all (NameFails (manner_of g.W.Written.LANGUAGE c.args.self) c.args.self.text.now ns c.args.at) _
     (seen_after g (goal.at.returns-in_err-colon-clause-told g c).Else-not-branch ns h (blind c.in_err-colon.field-0.0) c.in_err-colon.ensures refl))
 

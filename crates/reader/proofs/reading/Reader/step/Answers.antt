@@ -1,5 +1,5 @@
 use Rattle.std.proofs.Common.{◌≡◌, true, false, sym, refl, ◌∙◌, subst, arith, rules}
-use Rattle.reader.proofs.Faults.{handed_on}
+use Rattle.text.proofs.Handed.{handed_on}
 use Rattle.text.specs.declared.language.Language.{Language}
 use Rattle.text.specs.contracts.token.TokenPartialEq.TheImpl as token_eq
 use Rattle.text.specs.declared.token.Token.TheVariants.{Comma}
@@ -12,7 +12,7 @@ use Rattle.reader.proofs.reading.Reader.step.Goals as goal
 
 pub returns-in_err-lexeme : goal.returns-in_err-lexeme
 returns-in_err-lexeme g c m h =
-    rw (handed_on c.from_residual.result c.from_residual.ensures.1) (blind c.in_err-lexeme.field-0.0, c.in_err-lexeme.ensures, turn_blind g.W.Written.LANGUAGE m c.args.at _)
+    rw (handed_on c.from_residual.ensures.1) (blind c.in_err-lexeme.field-0.0, c.in_err-lexeme.ensures, turn_blind g.W.Written.LANGUAGE m c.args.at _)
 
 pub returns-then-eq : goal.returns-then-eq
 returns-then-eq g c m h =

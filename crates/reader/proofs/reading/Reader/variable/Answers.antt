@@ -1,5 +1,6 @@
 use Rattle.std.proofs.Common.{vec_items, sym, refl, ap, ◌∙◌, arith}
-use Rattle.reader.proofs.Faults.{handed_on, blames_all}
+use Rattle.text.proofs.Handed.{handed_on}
+use Rattle.reader.proofs.Faults.{blames_all}
 use Rattle.model.specs.Values.{variable}
 use Rattle.names.specs.declared.names.Names.{Names}
 use Rattle.names.specs.declared.part.Part.TheVariants.{Text}
@@ -18,7 +19,7 @@ use Rattle.reader.proofs.reading.Reader.variable.Goals as goal
 
 pub returns-in_err-lexeme : goal.returns-in_err-lexeme
 returns-in_err-lexeme g c d room i name o =
-    rw (handed_on c.from_residual.result c.from_residual.ensures.1) (blames_all (λ f. Reads _ _ _ d i (fails f)) _ (r_variable {v = blind c.in_err-lexeme.field-0.0} o.seen room c.in_err-lexeme.ensures refl))
+    rw (handed_on c.from_residual.ensures.1) (blames_all (λ f. Reads _ _ _ d i (fails f)) _ (r_variable {v = blind c.in_err-lexeme.field-0.0} o.seen room c.in_err-lexeme.ensures refl))
 
 pub returns-in_default : goal.returns-in_default
 returns-in_default g c d room i name o =

@@ -1,5 +1,6 @@
 use Rattle.std.proofs.Common.{◌≡◌, length, refl, ap, subst, rules}
-use Rattle.reader.proofs.Faults.{handed_on, blames_all, blames_map}
+use Rattle.text.proofs.Handed.{handed_on}
+use Rattle.reader.proofs.Faults.{blames_all, blames_map}
 use Rattle.source.specs.Table.{Stands, table_of}
 use Rattle.text.specs.TokenFound.{View, v_end, view_of, Holds}
 use Rattle.text.specs.TokenGrammar.{Lexical}
@@ -16,14 +17,14 @@ returns-then-self-gt-LONGEST_TEXT g c = whole_long c.if-self-gt-LONGEST_TEXT.tru
 
 pub returns-in_err-end : goal.returns-in_err-end
 returns-in_err-end g c =
-    rw (handed_on c.from_residual.result c.from_residual.ensures.1)
+    rw (handed_on c.from_residual.ensures.1)
     (blames_map (ValueFails (manner_of g.W.Written.LANGUAGE c.args.self) c.args.self.text.now 33 0) (FaultWhole (manner_of g.W.Written.LANGUAGE c.args.self) c.args.self.text.now)
     (λ f r. whole_read c.if-self-gt-LONGEST_TEXT.false (all_fails r)) _ c.in_err-end.ensures)
 
 pub returns-in_err-after : goal.returns-in_err-after
 returns-in_err-after g c =
     let a = c.in_ok-end.ensures in
-    rw (handed_on c.from_residual-in_err-after.result c.from_residual-in_err-after.ensures.1) (blames_all (FaultWhole (manner_of g.W.Written.LANGUAGE c.args.self) c.args.self.text.now) _ (whole_read c.if-self-gt-LONGEST_TEXT.false (all_read {v = blind c.in_err-after.field-0.0} a.reads c.in_err-after.ensures refl)))
+    rw (handed_on c.from_residual-in_err-after.ensures.1) (blames_all (FaultWhole (manner_of g.W.Written.LANGUAGE c.args.self) c.args.self.text.now) _ (whole_read c.if-self-gt-LONGEST_TEXT.false (all_read {v = blind c.in_err-after.field-0.0} a.reads c.in_err-after.ensures refl)))
 
 pub returns : goal.returns
 returns g c =

@@ -1,11 +1,11 @@
 use Rattle.std.proofs.Common.{arith}
-use Rattle.stored.proofs.RdSteps.{passed}
+use Rattle.text.proofs.Handed.{handed_on}
 use Rattle.stored.proofs.CoForms.{of_kind, empty_decides, told_null, told_boolean, told_whole, told_decimal, told_string, told_unknown}
 use Rattle.stored.proofs.header.Record.content.Goals as goal
 
 pub returns-in_err-try_from : goal.returns-in_err-try_from
 returns-in_err-try_from c =
-    rw (passed c.from_residual.ensures.1) (told_unknown c.args.self.kind c.args.self.body.now c.in_err-try_from.ensures.1)
+    rw (handed_on c.from_residual.ensures.1) (told_unknown c.args.self.kind c.args.self.body.now c.in_err-try_from.ensures.1)
 
 pub returns-in-Null : goal.returns-in-Null
 returns-in-Null c = of_kind c.args.self.body.now c.in_ok-try_from.ensures c.in-Null.is c.leaf.ensures (told_null c.args.self.body.now c.is_empty.result (empty_decides c.args.self.body.now c.is_empty.result c.is_empty.ensures))

@@ -2,7 +2,8 @@ use Rattle.std.proofs.Common.{refl, sym, ◌∙◌, vec_items, subst}
 use Rattle.stored.specs.Frames.{RecordTold}
 use Rattle.stored.specs.Outcomes.{m_unnamed, m_repeated}
 use Rattle.stored.proofs.FrLaws.{ends, within}
-use Rattle.stored.proofs.RdSteps.{passed, found, ok_or_none, other_kind, not_formed, name_at, has_it, added_it}
+use Rattle.text.proofs.Handed.{handed_on}
+use Rattle.stored.proofs.RdSteps.{found, ok_or_none, other_kind, not_formed, name_at, has_it, added_it}
 use Rattle.stored.proofs.reading.Reader.member_name.Goals as goal
 use Rattle.stored.proofs.reading.Reader.member_name.Goals.{then-not-is_name-via-then-not-is_name, then-not-is_name-via-else-not-is_name+then-not-name_form}
 
@@ -10,7 +11,7 @@ pub returns-in_err-record : goal.returns-in_err-record
 returns-in_err-record c =
     let e = c.in_err-record.ensures in
     let none = subst (RecordTold c.args.self.now.bytes.now c.args.at c.args.to) e.ok_part c.at.ensures in
-    rw (passed c.from_residual.ensures.1, ok_or_none e.value e.ok_part) (λ d h. m_unnamed h (λ n a. none 8 n a.framed))
+    rw (handed_on c.from_residual.ensures.1, ok_or_none e.value e.ok_part) (λ d h. m_unnamed h (λ n a. none 8 n a.framed))
 
 pub returns-then-not-is_name : goal.returns-then-not-is_name
 returns-then-not-is_name c d h =
