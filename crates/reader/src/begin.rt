@@ -21,6 +21,8 @@ use text::{decimal, graphql, json, string};
 
 // The node of a name from `start` to `end`: null, a boolean or an enum value.
 // It compares, since the facts of a match on byte strings have no names that a proof could cite.
+// Left to LLVM, it and the node of a decimal stand apart where both languages are read.
+#[inline(always)]
 fn word_node(word: &[u8], start: usize, end: usize, name: Option<Part>) -> Node
     ensures { (text pool : List ℕ) → start ≤ end → end ≤ length text → word.now ≡ cut_out text start end → LeafNode text pool pool name start (a_name word.now) result }
 {
@@ -54,6 +56,7 @@ fn whole_node(spelled: &[u8], start: usize, end: usize, name: Option<Part>) -> N
 }
 
 // The node of a decimal, whose digits in normal form are added to the pool.
+#[inline(always)]
 fn decimal_node(
     spelled: &[u8],
     start: usize,

@@ -66,6 +66,8 @@ impl<'a> Lexeme<'a> {
 }
 
 // The number that begins at `start`, whatever follows it.
+// Left to LLVM, it stands apart where both languages are read, and reading takes a third more instructions.
+#[inline(always)]
 pub(crate) fn numeral(text: &[u8], start: usize) -> Result<Lexeme<'_>, Fault>
     ensures { NumeralTold text.now start result }
 {
