@@ -44,10 +44,7 @@ impl From<anyhow::Error> for Stop {
 
 // A refusal has a number; want of memory has none.
 fn refused(number: Option<u8>) -> Stop {
-    match number {
-        Some(number) => Stop::Refused(number),
-        None => Stop::Failed(anyhow!("no memory")),
-    }
+    number.map_or_else(|| Stop::Failed(anyhow!("no memory")), Stop::Refused)
 }
 
 // The folder that the first argument names, or the working directory.
