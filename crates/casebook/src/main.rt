@@ -44,10 +44,7 @@ impl From<anyhow::Error> for Stop {
 
 // A refusal has a number; want of memory has none.
 fn refused(number: Option<u8>) -> Stop {
-    match number {
-        Some(number) => Stop::Refused(number),
-        None => Stop::Failed(anyhow!("no memory")),
-    }
+    number.map_or_else(|| Stop::Failed(anyhow!("no memory")), Stop::Refused)
 }
 
 // The folder that the first argument names, or the working directory.
@@ -62,13 +59,10 @@ fn folder(rt: &HostRuntime) -> anyhow::Result<String> {
 fn read(rt: &HostRuntime, folder: &str, file: &str) -> anyhow::Result<Vec<u8>> {
     let heap = rt.alloc();
     let path = Path::new(folder).join(heap, file)?;
-    match fs::read(rt, path.as_str()) {
-        Ok(bytes) => Ok(bytes),
-        Err(error) => {
-            let name = path.as_str();
-            Err(anyhow!(format!(in heap; "cannot read {name}: {error}")?))
-        }
-    }
+    let name = path.as_str();
+    fs::read(rt, name).try_map_err(|error| Ok(anyhow!(format!(in heap;
+        "cannot read {name}: {error}"
+    )?)))
 }
 
 // The sheet of the three files of a folder, in hexadecimal.

@@ -11,7 +11,7 @@ use validation::fault::MakeFault;
 use validation::{make_operation, make_schema};
 
 // Bytes as characters, each as the one of its number.
-pub fn characters(heap: Global, bytes: &[u8]) -> Result<String, AllocError> {
+pub(crate) fn characters(heap: Global, bytes: &[u8]) -> Result<String, AllocError> {
     bytes.iter().copied().map(char::from).collect(heap)
 }
 

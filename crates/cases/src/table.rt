@@ -42,10 +42,9 @@ fn cut(text: &[u8], mark: u8) -> Result<(&[u8], &[u8]), Misread>
 
 // A number in decimal digits, with no sign.
 fn number(digits: &[u8]) -> Option<usize> {
-    let text = str::from_utf8(digits).ok()?;
-    if text.starts_with('+') {
-        return None;
-    }
+    let text = str::from_utf8(digits)
+        .ok()
+        .filter(|text| !text.starts_with('+'))?;
     text.parse().ok()
 }
 
@@ -62,13 +61,20 @@ fn byte(first: u8, after: &[u8]) -> (u8, &[u8])
     (first, after)
 }
 
+// Adds the byte that a text writes first, and tells what comes after it.
+fn add_byte<'t>(first: u8, after: &'t [u8], out: &mut Vec<u8>) -> Result<&'t [u8], Misread>
+    ensures { IfOk result (λ rest. length rest.now ≤ length after.now) }
+{
+    let (b, rest) = byte(first, after);
+    out.push(b)?;
+    Ok(rest)
+}
+
 // Adds the bytes that a text without repetitions writes.
 fn add(text: &[u8], out: &mut Vec<u8>) -> Result<(), Misread> {
     let mut rest = text;
     while let [first, after @ ..] = rest {
-        let (b, after) = byte(*first, after);
-        out.push(b)?;
-        rest = after;
+        rest = add_byte(*first, after, out)?;
     }
     Ok(())
 }
@@ -90,13 +96,11 @@ fn field(heap: Global, text: &[u8]) -> Result<Vec<u8>, Misread> {
     let mut out = Vec::new(heap);
     let mut rest = text;
     while let [first, after @ ..] = rest {
-        if *first == b'^' {
-            rest = repeat(after, &mut out)?;
+        rest = if *first == b'^' {
+            repeat(after, &mut out)?
         } else {
-            let (b, after) = byte(*first, after);
-            out.push(b)?;
-            rest = after;
-        }
+            add_byte(*first, after, &mut out)?
+        };
     }
     Ok(out)
 }

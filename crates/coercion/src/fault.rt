@@ -30,6 +30,7 @@ pub enum ValueFault {
     VariableInValue(Spot),
 }
 
+// By hand: a derived `From` does not promise which case it gives.
 impl From<Fault> for ValueFault {
     ghost from_gives = { λ e f. f ≡ Text e };
 

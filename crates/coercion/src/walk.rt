@@ -17,10 +17,10 @@ use text::language::Language;
 
 // What stays the same throughout a walk.
 #[derive_where(Clone, Copy)]
-pub struct Walk<'w, 'a, 's, 'r, S, R> {
+pub struct Walk<'w, 's, S, R> {
     pub source: &'w S,
-    pub schema: &'a Schema<'s>,
-    pub rule: &'r R,
+    pub schema: &'w Schema<'s>,
+    pub rule: &'w R,
     // The index of the variable whose value is walked.
     pub variable: usize,
     // Whether faults are told at the places of the source; otherwise at 0.
@@ -67,7 +67,7 @@ struct Step<'s> {
     shape: Option<Shape>,
 }
 
-impl<'w, S: Source, R: ScalarRule> Walk<'w, '_, '_, '_, S, R> {
+impl<'w, S: Source, R: ScalarRule> Walk<'w, '_, S, R> {
     fn spot(&self, at: usize) -> Spot {
         let place = if self.placed {
             self.source.place(at)
@@ -121,11 +121,13 @@ impl<'w, S: Source, R: ScalarRule> Walk<'w, '_, '_, '_, S, R> {
             Kind::Null | Kind::Variable => (Body::Null, None),
             Kind::Boolean => (Body::Boolean(source.boolean(at)), None),
             Kind::Whole => (Body::Whole(text), None),
-            Kind::Decimal => {
-                let scale = source.scale(at);
-                let digits = text;
-                (Body::Decimal { scale, digits }, None)
-            }
+            Kind::Decimal => (
+                Body::Decimal {
+                    scale: source.scale(at),
+                    digits: text,
+                },
+                None,
+            ),
             Kind::String | Kind::Enum => (Body::String(text), None),
             Kind::List => (Body::List, Some(Rest::Items(source.inside(at)))),
             Kind::Object => (Body::Object, Some(Rest::Members(source.inside(at)))),
@@ -256,6 +258,8 @@ impl<'w, S: Source, R: ScalarRule> Walk<'w, '_, '_, '_, S, R> {
         }
     }
 
+    // The working bytes and the open frames stand side by side: of a struct that holds a guard, its maker is not told
+    // what the guard's bytes are at its end.
     // Writes the name and the record of the value at `at`, after what is written.
     pub fn walk(
         &self,

@@ -39,6 +39,7 @@ impl TypeKind {
 
 #[derive(Clone, Copy)]
 pub struct TypeDef<'a> {
+    // Beside its place and not a `Name` with it, as clauses and callers have it.
     pub name: &'a [u8],
     // The offset of the name in the schema's text.
     pub place: usize,
@@ -117,12 +118,9 @@ impl<'a> Schema<'a> {
         Table::new(self.types.as_slice()).find(name)
     }
 
-    // The name of a declared type; of none the empty name.
+    // The name of a declared type; of none the empty name, which is what callers would take in place of a None.
     pub fn type_name(&self, index: usize) -> &[u8] {
-        match self.types.get(index) {
-            Some(ty) => ty.name,
-            None => b"",
-        }
+        self.types.get(index).map(|ty| ty.name).unwrap_or_default()
     }
 
     // Where the values or fields of a declared type stand; those of none nowhere.

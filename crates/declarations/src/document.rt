@@ -90,31 +90,18 @@ fn contents<'a>(
     ensures types { vec_len schema.new.types ≡ vec_len schema.old.types }
 {
     match kind {
-        TypeKind::Enum => {
-            let from = schema.values.len();
-            enum_values(tokens, &mut schema.values)?;
-            Ok(Span {
-                from,
-                to: schema.values.len(),
-            })
-        }
-        TypeKind::Input => {
-            let from = schema.fields.len();
-            input_fields(tokens, &mut schema.fields, &mut schema.tree.nodes)?;
-            Ok(Span {
-                from,
-                to: schema.fields.len(),
-            })
-        }
+        TypeKind::Enum => enum_values(tokens, &mut schema.values),
+        TypeKind::Input => input_fields(tokens, &mut schema.fields, &mut schema.tree.nodes),
         TypeKind::Scalar | TypeKind::Output => Ok(Span::EMPTY),
     }
 }
 
-// The values of an enum in their braces, at least one.
-fn enum_values<'a>(tokens: &mut Tokens<'a>, values: &mut Vec<EnumValue<'a>>) -> Result<(), Fault>
+// Not one function with `input_fields`: they differ in names, limits and what may stand there.
+// The values of an enum in their braces, at least one: where they stand.
+fn enum_values<'a>(tokens: &mut Tokens<'a>, values: &mut Vec<EnumValue<'a>>) -> Result<Span, Fault>
     ensures { IfOk result (λ _. Onward 0 tokens.old tokens.new) }
 {
-    let first = values.len();
+    let from = values.len();
     tokens.expect(|token| matches!(token, Token::OpenBrace))?;
     loop {
         let Lexeme { token, start, .. } = tokens.next()?;
@@ -126,21 +113,26 @@ fn enum_values<'a>(tokens: &mut Tokens<'a>, values: &mut Vec<EnumValue<'a>>) -> 
                 }
                 values.push(EnumValue { name, place: start })?;
             }
-            Token::CloseBrace if values.len() != first => return Ok(()),
+            Token::CloseBrace if values.len() != from => {
+                return Ok(Span {
+                    from,
+                    to: values.len(),
+                });
+            }
             _ => return Err(Fault::BadText(start)),
         }
     }
 }
 
-// The fields of an input object in their braces, at least one.
+// The fields of an input object in their braces, at least one: where they stand.
 fn input_fields<'a>(
     tokens: &mut Tokens<'a>,
     fields: &mut Vec<Field<'a>>,
     nodes: &mut Nodes,
-) -> Result<(), Fault>
+) -> Result<Span, Fault>
     ensures { IfOk result (λ _. Onward 0 tokens.old tokens.new) }
 {
-    let first = fields.len();
+    let from = fields.len();
     tokens.expect(|token| matches!(token, Token::OpenBrace))?;
     loop {
         let Lexeme { token, start, .. } = tokens.next()?;
@@ -157,7 +149,12 @@ fn input_fields<'a>(
                     default,
                 })?;
             }
-            Token::CloseBrace if fields.len() != first => return Ok(()),
+            Token::CloseBrace if fields.len() != from => {
+                return Ok(Span {
+                    from,
+                    to: fields.len(),
+                });
+            }
             _ => return Err(Fault::BadText(start)),
         }
     }

@@ -41,6 +41,7 @@ impl<'a, R> Table<'a, R> {
     }
 }
 
+// A function of its own, since what `position` finds is not told to a proof of `find` past its closure.
 // The index of the first record with the name.
 fn first<R: Named>(records: &[R], name: &[u8]) -> Option<usize>
     ensures { result ≡ position (λ r. bytes_eq (R.called r) name.now) records.now }

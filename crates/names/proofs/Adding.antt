@@ -6,8 +6,8 @@ use Rattle.model.specs.Values.{Name, has, same}
 use Rattle.model.proofs.CoNames.{same_true, has_head, has_later}
 use Rattle.names.specs.declared.names.Link.{Link}
 use Rattle.names.specs.Parts.{PartFits, bytes_of}
-use Rattle.names.specs.Bits.{hash_of_lem, bit_of}
-use Rattle.names.specs.Index.{blank, child_of, with_child_lem, name_at, names_of, names_from, Child, Leads, here, down, Goes, start, on, Sound, Leaf, Found, Added}
+use Rattle.names.specs.Bits.{name_hash, bit_of}
+use Rattle.names.specs.Index.{blank, child_of, linked, name_at, names_of, names_from, Child, Leads, here, down, Goes, start, on, Sound, Leaf, Found, Added}
 
 -- a name that no link has is not among the names
 absent : (text pool : List ℕ) (links : List Link) (base : ℕ) (n : List ℕ) → ((k : ℕ) → base ≤ k → k < length links → name_at text pool links k ≡ n → ⊥) → has (names_from text pool links base) n ≡ false
@@ -72,11 +72,11 @@ grown_push before new =
           };
     }
 
-child_new : (l : Link) (side : Bool) (c : ℕ) → child_of (with_child_lem l side c) side ≡ Some c
+child_new : (l : Link) (side : Bool) (c : ℕ) → child_of (linked l side c) side ≡ Some c
 child_new l true c = refl
 child_new l false c = refl
 
-child_kept : (l : Link) (side s : Bool) (c : ℕ) → (s ≡ side → ⊥) → child_of (with_child_lem l side c) s ≡ child_of l s
+child_kept : (l : Link) (side s : Bool) (c : ℕ) → (s ≡ side → ⊥) → child_of (linked l side c) s ≡ child_of l s
 child_kept l true true c ne = absurd (ne refl)
 child_kept l true false c ne = refl
 child_kept l false true c ne = refl
@@ -91,16 +91,16 @@ cases_side false false = inl refl
 -- a child comes where there was none
 module _ (before mid : List Link) (new : Link) (at : ℕ) (side : Bool) (c : ℕ) (g : Grown before mid new) (within : at < length before) (ends : (d : ℕ) → Child before at side d → ⊥) where
   abbrev after : List Link
-  after = set mid at (with_child_lem (get_or mid at blank) side c)
+  after = set mid at (linked (get_or mid at blank) side c)
 
   inside : at < length mid
   inside = omega (arith, g.long)
 
-  at_set : get_or after at blank ≡ with_child_lem (get_or mid at blank) side c
-  at_set = get_or-set_same mid at (with_child_lem (get_or mid at blank) side c) blank inside
+  at_set : get_or after at blank ≡ linked (get_or mid at blank) side c
+  at_set = get_or-set_same mid at (linked (get_or mid at blank) side c) blank inside
 
   off_set : (k : ℕ) → (k ≡ at → ⊥) → get_or after k blank ≡ get_or mid k blank
-  off_set k ne = get_or-set_other mid at k (with_child_lem (get_or mid at blank) side c) blank ne
+  off_set k ne = get_or-set_other mid at k (linked (get_or mid at blank) side c) blank ne
 
   name_same : (k : ℕ) → (get_or after k blank).name ≡ (get_or mid k blank).name
   name_same k =
@@ -137,7 +137,7 @@ module _ (before mid : List Link) (new : Link) (at : ℕ) (side : Bool) (c : ℕ
         hash_new = hash_same (length before) ∙ g.hash_new;
         children = λ k d s x.
             let y = g.children k d s x in
-            record { is = child_same k d s x ∙ y.is; after = y.after; within = omega (arith, y.within, length-set mid at (with_child_lem (get_or mid at blank) side c)) };
+            record { is = child_same k d s x ∙ y.is; after = y.after; within = omega (arith, y.within, length-set mid at (linked (get_or mid at blank) side c)) };
       }
 
   new_child : c ≡ length before → Child after at side c
@@ -145,7 +145,7 @@ module _ (before mid : List Link) (new : Link) (at : ℕ) (side : Bool) (c : ℕ
       record {
         is = ap (λ (l : Link). child_of l side) at_set ∙ child_new (get_or mid at blank) side c;
         after = omega arith;
-        within = omega (arith, g.long, length-set mid at (with_child_lem (get_or mid at blank) side c));
+        within = omega (arith, g.long, length-set mid at (linked (get_or mid at blank) side c));
       }
 
 leads_on : {before after : List Link} {h : ℕ} {n : List ℕ} {at level k : ℕ} → ((at c : ℕ) (side : Bool) → Child before at side c → Child after at side c) → Leads before h n at level k → Leads after h n at level k
@@ -163,17 +163,17 @@ each P m n e below last k h =
 
 -- the links stay a search tree
 sound_grown : (text pool : List ℕ) (before after : List Link) (base : ℕ) (new : Link) → Grown before after new → Sound text pool before base
-    → PartFits text pool new.name → new.hash ≡ hash_of_lem (bytes_of text pool new.name)
-    → Leads after (hash_of_lem (bytes_of text pool new.name)) (bytes_of text pool new.name) base 0 (length before)
+    → PartFits text pool new.name → new.hash ≡ name_hash (bytes_of text pool new.name)
+    → Leads after (name_hash (bytes_of text pool new.name)) (bytes_of text pool new.name) base 0 (length before)
     → Sound text pool after base
 sound_grown text pool before after base new g s fits hashed leads =
     let kept : (k : ℕ) → k < length before → name_at text pool before k ≡ name_at text pool after k = λ k h. ap (bytes_of text pool) (sym (g.name_kept k h)) in
     let last : bytes_of text pool new.name ≡ name_at text pool after (length before) = ap (bytes_of text pool) (sym g.name_new) in
     record {
       leads = λ k a h.
-          each (λ k. base ≤ k → Leads after (hash_of_lem (name_at text pool after k)) (name_at text pool after k) base 0 k) (length before) (length after) g.long
-          (λ k h a. subst (λ (n : List ℕ). Leads after (hash_of_lem n) n base 0 k) (kept k h) (leads_on g.children (s.leads k a h)))
-          (λ a. subst (λ (n : List ℕ). Leads after (hash_of_lem n) n base 0 (length before)) last leads)
+          each (λ k. base ≤ k → Leads after (name_hash (name_at text pool after k)) (name_at text pool after k) base 0 k) (length before) (length after) g.long
+          (λ k h a. subst (λ (n : List ℕ). Leads after (name_hash n) n base 0 k) (kept k h) (leads_on g.children (s.leads k a h)))
+          (λ a. subst (λ (n : List ℕ). Leads after (name_hash n) n base 0 (length before)) last leads)
           k h a;
       fits = λ k a h.
           each (λ k. base ≤ k → PartFits text pool (get_or after k blank).name) (length before) (length after) g.long
@@ -181,15 +181,15 @@ sound_grown text pool before after base new g s fits hashed leads =
           (λ a. subst (PartFits text pool) (sym g.name_new) fits)
           k h a;
       hashed = λ k a h.
-          each (λ k. base ≤ k → (get_or after k blank).hash ≡ hash_of_lem (name_at text pool after k)) (length before) (length after) g.long
-          (λ k h a. g.hash_kept k h ∙ s.hashed k a h ∙ ap hash_of_lem (kept k h))
-          (λ a. g.hash_new ∙ hashed ∙ ap hash_of_lem last)
+          each (λ k. base ≤ k → (get_or after k blank).hash ≡ name_hash (name_at text pool after k)) (length before) (length after) g.long
+          (λ k h a. g.hash_kept k h ∙ s.hashed k a h ∙ ap name_hash (kept k h))
+          (λ a. g.hash_new ∙ hashed ∙ ap name_hash last)
           k h a;
     }
 
 -- the first name of an object
 pub add_first : (text pool : List ℕ) (base : ℕ) (before after : List Link) (new : Link) (n : List ℕ)
-    → base ≡ length before → after ≡ before ++ new ∷ [] → PartFits text pool new.name → n ≡ bytes_of text pool new.name → new.hash ≡ hash_of_lem n
+    → base ≡ length before → after ≡ before ++ new ∷ [] → PartFits text pool new.name → n ≡ bytes_of text pool new.name → new.hash ≡ name_hash n
     → Sound text pool before base → Added text pool base before after (bytes_of text pool new.name)
 add_first text pool base before after new n root is fits reads hashed s =
     let g : Grown before after new = subst (λ (ls : List Link). Grown before ls new) (sym is) (grown_push before new) in
@@ -199,24 +199,24 @@ add_first text pool base before after new n root is fits reads hashed s =
       names = ap (λ ls. names_from text pool ls base) is ∙ names_push text pool before base new (omega arith);
       below = ap (take base) is ∙ take-append-le base before (new ∷ []) (omega arith);
       within = omega (arith, g.long);
-      sound = sound_grown text pool before after base new g s fits (hashed ∙ ap hash_of_lem reads) (subst (λ (k : ℕ). Leads after (hash_of_lem q) q base 0 k) root here);
+      sound = sound_grown text pool before after base new g s fits (hashed ∙ ap name_hash reads) (subst (λ (k : ℕ). Leads after (name_hash q) q base 0 k) root here);
     }
 
 -- a further name, below the leaf
 pub add_below : (text pool : List ℕ) (base : ℕ) (before mid : List Link) (new l : Link) (n : List ℕ) (at c : ℕ) (side : Bool)
     → base ≤ at → at < length before → mid ≡ before ++ new ∷ [] → l ≡ get_or mid at l → c ≡ length before
-    → PartFits text pool new.name → n ≡ bytes_of text pool new.name → new.hash ≡ hash_of_lem n
+    → PartFits text pool new.name → n ≡ bytes_of text pool new.name → new.hash ≡ name_hash n
     → Sound text pool before base → Leaf text pool before base new.hash n at side
-    → Added text pool base before (set mid at (with_child_lem l side c)) (bytes_of text pool new.name)
+    → Added text pool base before (set mid at (linked l side c)) (bytes_of text pool new.name)
 add_below text pool base before mid new l n at c side from within is read end fits reads hashed s f =
     let g : Grown before mid new = subst (λ (ls : List Link). Grown before ls new) (sym is) (grown_push before new) in
     let q = bytes_of text pool new.name in
-    let set_is : set mid at (with_child_lem (get_or mid at blank) side c) ≡ set mid at (with_child_lem l side c) =
-    ap (λ (x : Link). set mid at (with_child_lem x side c)) (sym (get_or_read mid at l (omega (arith, g.long)) read blank)) in
+    let set_is : set mid at (linked (get_or mid at blank) side c) ≡ set mid at (linked l side c) =
+    ap (λ (x : Link). set mid at (linked x side c)) (sym (get_or_read mid at l (omega (arith, g.long)) read blank)) in
     let grown = grown_set before mid new at side c g within f.ends in
-    let child : Child (set mid at (with_child_lem (get_or mid at blank) side c)) at (bit_of new.hash n f.level) (length before) =
-    subst (λ (b : Bool). Child (set mid at (with_child_lem (get_or mid at blank) side c)) at b (length before)) f.sides
-    (subst (λ (d : ℕ). Child (set mid at (with_child_lem (get_or mid at blank) side c)) at side d) end (new_child before mid new at side c g within f.ends end)) in
+    let child : Child (set mid at (linked (get_or mid at blank) side c)) at (bit_of new.hash n f.level) (length before) =
+    subst (λ (b : Bool). Child (set mid at (linked (get_or mid at blank) side c)) at b (length before)) f.sides
+    (subst (λ (d : ℕ). Child (set mid at (linked (get_or mid at blank) side c)) at side d) end (new_child before mid new at side c g within f.ends end)) in
     let leads = goes_on (length before) grown.children f.goes (down child here) in
     subst (λ (ls : List Link). Added text pool base before ls q) set_is
     (record {
@@ -224,7 +224,7 @@ add_below text pool base before mid new l n at c side from within is read end fi
       names = names_set text pool mid base at _ refl ∙ ap (λ ls. names_from text pool ls base) is ∙ names_push text pool before base new (omega arith);
       below = take-set-le base mid at _ from ∙ ap (take base) is ∙ take-append-le base before (new ∷ []) (omega arith);
       within = omega (arith, grown.long);
-      sound = sound_grown text pool before _ base new grown s fits (hashed ∙ ap hash_of_lem reads)
-          (subst (λ (m : List ℕ). Leads (set mid at (with_child_lem (get_or mid at blank) side c)) (hash_of_lem m) m base 0 (length before)) reads
-          (subst (λ (h : ℕ). Leads (set mid at (with_child_lem (get_or mid at blank) side c)) h n base 0 (length before)) hashed leads));
+      sound = sound_grown text pool before _ base new grown s fits (hashed ∙ ap name_hash reads)
+          (subst (λ (m : List ℕ). Leads (set mid at (linked (get_or mid at blank) side c)) (name_hash m) m base 0 (length before)) reads
+          (subst (λ (h : ℕ). Leads (set mid at (linked (get_or mid at blank) side c)) h n base 0 (length before)) hashed leads));
     })

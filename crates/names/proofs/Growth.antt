@@ -5,7 +5,7 @@ use Rattle.names.specs.declared.part.Part.{Part}
 use Rattle.names.specs.declared.part.Part.TheVariants.{Text, Pool}
 use Rattle.names.specs.declared.names.Link.{Link}
 use Rattle.names.specs.Parts.{PartFits, bytes_of}
-use Rattle.names.specs.Bits.{hash_of_lem}
+use Rattle.names.specs.Bits.{name_hash}
 use Rattle.names.specs.Index.{blank, name_at, names_of, names_from, Leads, Sound}
 
 -- an object without members
@@ -31,9 +31,9 @@ pub sound_pool : (text pool more : List ℕ) (links : List Link) (base : ℕ) �
 sound_pool text pool more links base s =
     let kept : (k : ℕ) → base ≤ k → k < length links → name_at text pool links k ≡ name_at text (pool ++ more) links k = λ k a h. sym (bytes_pool text pool more (get_or links k blank).name (s.fits k a h)) in
     record {
-      leads = λ k a h. subst (λ (n : List ℕ). Leads links (hash_of_lem n) n base 0 k) (kept k a h) (s.leads k a h);
+      leads = λ k a h. subst (λ (n : List ℕ). Leads links (name_hash n) n base 0 k) (kept k a h) (s.leads k a h);
       fits = λ k a h. fits_pool text pool more (get_or links k blank).name (s.fits k a h);
-      hashed = λ k a h. s.hashed k a h ∙ ap hash_of_lem (kept k a h);
+      hashed = λ k a h. s.hashed k a h ∙ ap name_hash (kept k a h);
     }
 
 names_kept : (text pool more : List ℕ) (links : List Link) (base : ℕ) → ((k : ℕ) → base ≤ k → k < length links → PartFits text pool (get_or links k blank).name) → names_from text (pool ++ more) links base ≡ names_from text pool links base

@@ -3,7 +3,7 @@ use Rattle.std.proofs.Common.{◌≡◌, ℕ, ◌+◌, ◌<◌, ◌≤◌, Bool,
 use Rattle.std.proofs.lemmas.List.{get_or_read}
 use Rattle.names.specs.declared.names.Link.{Link}
 use Rattle.names.specs.Parts.{PartFits, bytes_of}
-use Rattle.names.specs.Bits.{hash_of_lem, bit_of}
+use Rattle.names.specs.Bits.{name_hash, bit_of}
 use Rattle.names.specs.Index.{blank, child_of, name_at, Child, Leads, here, down, Goes, start, on, Sound, Leaf}
 
 -- the walk came to `at`, and every link with the name is still ahead
@@ -12,7 +12,7 @@ pub record Walking (text pool : List ℕ) (links : List Link) (base h : ℕ) (n 
   pub within : at < length links
   pub shallow : level ≤ at
   pub goes : Goes links h n base at level
-  pub ahead : Sound text pool links base → h ≡ hash_of_lem n → (k : ℕ) → base ≤ k → k < length links → name_at text pool links k ≡ n → Leads links h n at level k
+  pub ahead : Sound text pool links base → h ≡ name_hash n → (k : ℕ) → base ≤ k → k < length links → name_at text pool links k ≡ n → Leads links h n at level k
 
 -- a search ends at the link, or goes on at its child
 ways : {links : List Link} {h : ℕ} {n : List ℕ} {at level k : ℕ} → Leads links h n at level k → (at ≡ k) ⊎ ((c : ℕ) × Child links at (bit_of h n level) c × Leads links h n c (level + 1) k)
@@ -28,12 +28,12 @@ walk_start text pool links base h n lt =
       goes = start;
       ahead = λ s e k a b same.
           subst (λ (g : ℕ). Leads links g n base 0 k) (sym e)
-          (subst (λ (m : List ℕ). Leads links (hash_of_lem m) m base 0 k) same (s.leads k a b));
+          (subst (λ (m : List ℕ). Leads links (name_hash m) m base 0 k) same (s.leads k a b));
     }
 
 -- the link at `at` has another name, so that a link with the name is further on
 further : {text pool : List ℕ} {links : List Link} {base h : ℕ} {n : List ℕ} {at level : ℕ}
-    → Walking text pool links base h n at level → Sound text pool links base → h ≡ hash_of_lem n
+    → Walking text pool links base h n at level → Sound text pool links base → h ≡ name_hash n
     → (name_at text pool links at ≡ n → ⊥)
     → (k : ℕ) → base ≤ k → k < length links → name_at text pool links k ≡ n → (c : ℕ) × Child links at (bit_of h n level) c × Leads links h n c (level + 1) k
 further {text} {pool} {links} w s e other k a b same =
@@ -44,7 +44,7 @@ same_child x y = let e = sym x.is ∙ y.is in cc
 
 pub walk_on : {text pool : List ℕ} {links : List Link} {base h : ℕ} {n : List ℕ} {at level : ℕ} (next : ℕ)
     → Walking text pool links base h n at level
-    → (Sound text pool links base → h ≡ hash_of_lem n → name_at text pool links at ≡ n → ⊥)
+    → (Sound text pool links base → h ≡ name_hash n → name_at text pool links at ≡ n → ⊥)
     → Child links at (bit_of h n level) next
     → Walking text pool links base h n next (level + 1)
 walk_on {links = links} {h = h} {n = n} {level = level} next w other x =
@@ -60,10 +60,10 @@ walk_on {links = links} {h = h} {n = n} {level = level} next w other x =
 
 pub walk_ends : {text pool : List ℕ} {links : List Link} {base h : ℕ} {n : List ℕ} {at level : ℕ} (side : Bool)
     → Walking text pool links base h n at level
-    → (Sound text pool links base → h ≡ hash_of_lem n → name_at text pool links at ≡ n → ⊥)
+    → (Sound text pool links base → h ≡ name_hash n → name_at text pool links at ≡ n → ⊥)
     → side ≡ bit_of h n level
     → ((c : ℕ) → Child links at side c → ⊥)
-    → Sound text pool links base → h ≡ hash_of_lem n → Leaf text pool links base h n at side
+    → Sound text pool links base → h ≡ name_hash n → Leaf text pool links base h n at side
 walk_ends {links = links} {at = at} {level = level} side w other sides ends s e =
     record {
       level = level;
@@ -86,9 +86,9 @@ name_read text pool links at l bytes lt is read fits =
 
 pub hash_read : (text pool : List ℕ) (links : List Link) (base at h : ℕ) (n : List ℕ) (l : Link)
     → at < length links → l ≡ get_or links at l → base ≤ at
-    → Sound text pool links base → h ≡ hash_of_lem n → name_at text pool links at ≡ n → l.hash ≡ h
+    → Sound text pool links base → h ≡ name_hash n → name_at text pool links at ≡ n → l.hash ≡ h
 hash_read text pool links base at h n l lt is from s e same =
-    ap (λ (m : Link). m.hash) (get_or_read links at l lt is blank) ∙ s.hashed at from lt ∙ ap hash_of_lem same ∙ sym e
+    ap (λ (m : Link). m.hash) (get_or_read links at l lt is blank) ∙ s.hashed at from lt ∙ ap name_hash same ∙ sym e
 
 pub child_read : (links : List Link) (at next : ℕ) (l : Link) (side bit : Bool) (child : Option ℕ)
     → at < length links → l ≡ get_or links at l → child ≡ child_of l side → child ≡ Some next → side ≡ bit

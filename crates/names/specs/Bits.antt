@@ -6,8 +6,8 @@ abbrev pub mix : ℕ → ℕ → ℕ
 mix h b = (bit_xor h b * 16777619) % 2 ^ 32
 
 -- the hash of all bytes, its high half mixed into its low half
-unfoldable pub hash_of_lem : List ℕ → ℕ
-hash_of_lem bytes = let h = fold mix 2166136261 bytes in bit_xor h (h / 2 ^ 16)
+unfoldable pub name_hash : List ℕ → ℕ
+name_hash bytes = let h = fold mix 2166136261 bytes in bit_xor h (h / 2 ^ 16)
 
 -- whether bit k of a number is 1
 abbrev pub is_set : ℕ → ℕ → Bool

@@ -5,7 +5,7 @@ use Rattle.names.specs.declared.part.Part.{Part}
 use Rattle.names.specs.declared.part.Part.TheVariants.{Text}
 use Rattle.names.specs.declared.names.Link.{Link}
 use Rattle.names.specs.Parts.{PartFits, bytes_of}
-use Rattle.names.specs.Bits.{hash_of_lem, bit_of}
+use Rattle.names.specs.Bits.{name_hash, bit_of}
 
 -- what stands past the end
 abbrev pub blank : Link
@@ -16,8 +16,8 @@ abbrev pub child_of : Link → Bool → Option ℕ
 child_of l side = cond side l.high l.low
 
 -- a link with another child
-abbrev pub with_child_lem : Link → Bool → ℕ → Link
-with_child_lem l side c = record { name = l.name; hash = l.hash; low = cond side l.low (Some c); high = cond side (Some c) l.high }
+abbrev pub linked : Link → Bool → ℕ → Link
+linked l side c = record { name = l.name; hash = l.hash; low = cond side l.low (Some c); high = cond side (Some c) l.high }
 
 -- the name of the link at k
 abbrev pub name_at : (text pool : List ℕ) → List Link → ℕ → List ℕ
@@ -44,9 +44,9 @@ pub data Leads (links : List Link) (h : ℕ) (n : List ℕ) : ℕ → ℕ → �
 
 -- the links from base on are a search tree of their names, with the root at base
 pub record Sound (text pool : List ℕ) (links : List Link) (base : ℕ) : Type 0 where
-  pub leads : (k : ℕ) → base ≤ k → k < length links → Leads links (hash_of_lem (name_at text pool links k)) (name_at text pool links k) base 0 k
+  pub leads : (k : ℕ) → base ≤ k → k < length links → Leads links (name_hash (name_at text pool links k)) (name_at text pool links k) base 0 k
   pub fits : (k : ℕ) → base ≤ k → k < length links → PartFits text pool (get_or links k blank).name
-  pub hashed : (k : ℕ) → base ≤ k → k < length links → (get_or links k blank).hash ≡ hash_of_lem (name_at text pool links k)
+  pub hashed : (k : ℕ) → base ≤ k → k < length links → (get_or links k blank).hash ≡ name_hash (name_at text pool links k)
 
 -- the search for n from base comes to `at` at a level
 pub data Goes (links : List Link) (h : ℕ) (n : List ℕ) (base : ℕ) : ℕ → ℕ → Type 0 where
@@ -70,8 +70,8 @@ pub record Found (text pool : List ℕ) (links : List Link) (base : ℕ) (n : Li
 
 -- how a search ends
 abbrev pub LeafTold : (text pool : List ℕ) (links : List Link) (base h : ℕ) (n : List ℕ) → Option (ℕ × Bool) → Type 0
-LeafTold text pool links base h n None = Sound text pool links base → h ≡ hash_of_lem n → Found text pool links base n
-LeafTold text pool links base h n (Some p) = (base ≤ p.0) × (p.0 < length links) × (Sound text pool links base → h ≡ hash_of_lem n → Leaf text pool links base h n p.0 p.1)
+LeafTold text pool links base h n None = Sound text pool links base → h ≡ name_hash n → Found text pool links base n
+LeafTold text pool links base h n (Some p) = (base ≤ p.0) × (p.0 < length links) × (Sound text pool links base → h ≡ name_hash n → Leaf text pool links base h n p.0 p.1)
 
 -- the name n is new, and was added
 pub record Added (text pool : List ℕ) (base : ℕ) (before after : List Link) (n : List ℕ) : Type 0 where

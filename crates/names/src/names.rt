@@ -1,7 +1,7 @@
 // The names of the members of objects, as digital search trees.
 ghost use Rattle.std.specs.Prelude.{◌≡◌, ◌<◌, [], length, take};
-ghost use Rattle.names.specs.Bits.{hash_of_lem, bit_of};
-ghost use Rattle.names.specs.Index.{child_of, with_child_lem, AddTold, LeafTold};
+ghost use Rattle.names.specs.Bits.{name_hash, bit_of};
+ghost use Rattle.names.specs.Index.{child_of, linked, AddTold, LeafTold};
 
 use crate::part::{Holder, Part};
 use std::alloc::{AllocError, Global};
@@ -15,6 +15,8 @@ const FNV_OFFSET: u32 = 2166136261;
 const FNV_PRIME: u32 = 16777619;
 
 // A name, and the links at which the search goes on, on either side.
+// Links are told by their index: no name costs an allocation.
+// Two fields and not an array, since a side is one bit of a hash, and so a `bool`.
 #[derive(Clone, Copy, Debug)]
 pub struct Link {
     pub name: Part,
@@ -30,9 +32,9 @@ pub struct Names {
 }
 
 // FNV-1a, its high half mixed into its low half.
-#[tactic(auto, unfolding(crate::specs::Bits::hash_of_lem))]
+#[tactic(auto, unfolding(crate::specs::Bits::name_hash))]
 fn hash_of(bytes: &[u8]) -> u32
-    ensures { result ≡ hash_of_lem bytes.now }
+    ensures { result ≡ name_hash bytes.now }
 {
     let hash = bytes.iter().fold(FNV_OFFSET, |hash, byte| {
         (hash ^ u32::from(*byte)).wrapping_mul(FNV_PRIME)
@@ -63,7 +65,7 @@ impl Link {
 
     // The link with another child.
     fn with_child(self, high: bool, child: usize) -> Link
-        ensures { result ≡ with_child_lem self high child }
+        ensures { result ≡ linked self high child }
     {
         let child = Some(child);
         if high {
@@ -105,7 +107,7 @@ impl Names {
                 return None;
             }
             let high = bit(hash, name, level);
-            // Closing an object cuts links off: a child that does not come after this link, before the end, is none.
+            // A closed object's links are cut off, but links to them stay: a child that is not between this link and the end is none.
             match link.child(high) {
                 Some(next) if next > at && next < self.links.len() => at = next,
                 _ => return Some((at, high)),

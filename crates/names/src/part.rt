@@ -2,7 +2,7 @@
 ghost use Rattle.std.specs.Prelude.{◌≡◌, ◌-◌, [], length};
 ghost use Rattle.names.specs.Parts.{PartFits, bytes_of, start_of, end_of};
 
-// What parts are cut from: a text, and a pool of bytes beside it.
+// What parts are cut from.
 #[derive(Clone, Copy)]
 pub struct Holder<'s> {
     pub text: &'s [u8],
@@ -17,8 +17,6 @@ pub enum Part {
 }
 
 impl Part {
-    pub const EMPTY: Part = Part::Text { start: 0, end: 0 };
-
     pub fn start(self) -> usize
         ensures { result ≡ start_of self }
     {

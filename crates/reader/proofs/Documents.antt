@@ -6,13 +6,13 @@ use Rattle.text.specs.declared.language.Language.{Language}
 use Rattle.source.specs.Table.{Table}
 use Rattle.reader.specs.Tokens.{TokenIs, Sights}
 use Rattle.reader.specs.Told.{Blames}
-use Rattle.reader.specs.Document.{Writes, FirstFault, too_long, reading, Parsed, Unreadable, ReadWhole, FaultWhole, whole_long, whole_read, OneReading}
+use Rattle.reader.specs.Document.{Writes, FirstFault, too_long, reading, Readable, Unreadable, ReadWhole, FaultWhole, whole_long, whole_read, OneReading}
 use Rattle.reader.proofs.RdSights.{sure, one_sight, seen_is, sights_number}
 use Rattle.reader.proofs.RdSame.{same_all}
 use Rattle.reader.proofs.RdSound.{sound_all}
 use Rattle.reader.proofs.RdAgree.{agree_all, refuses_all}
 use Rattle.reader.proofs.RdLimits.{bounded_of, limits_of}
-use Rattle.reader.proofs.Growing.{blames_map}
+use Rattle.reader.proofs.Faults.{blames_map}
 
 one_fault : (language : Language) (text : List ℕ) (f g : Fault) → FirstFault language text f → FirstFault language text g → f ≡ g
 one_fault language text f g (too_long h e) (too_long k d) = e ∙ sym d
@@ -32,7 +32,7 @@ one_reading_lem = record {
 }
 
 -- the value that was read is the one that the text writes
-pub parsed : (language : Language) (text : List ℕ) (T : Table) → ReadWhole (record { language = language; distinct = true }) text T → Parsed language text T
+pub parsed : (language : Language) (text : List ℕ) (T : Table) → ReadWhole (record { language = language; distinct = true }) text T → Readable language text T
 parsed language text T r =
     let s = sound_all (Sights language text) (TokenIs language text) (λ i b e x n. seen_is n) language true r.reads in
     let l = limits_of s.0.value 0 s.1 in

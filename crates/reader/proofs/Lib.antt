@@ -1,3 +1,4 @@
+pub mod Faults
 pub mod RdSights
 pub mod RdSame
 pub mod RdSound

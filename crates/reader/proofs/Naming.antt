@@ -3,11 +3,11 @@ use Rattle.std.proofs.Common.{◌≡◌, ℕ, ◌-◌, ◌≤◌, Bool, true, fa
 use Rattle.std.proofs.lemmas.Bool.{cond-true, cond-false}
 use Rattle.model.specs.Values.{Name}
 use Rattle.text.specs.declared.fault.Fault.TheVariants.{BadText}
-use Rattle.text.specs.TokenGrammar.{Lexical, colon}
+use Rattle.text.specs.TokenGrammar.{Lexical, a_mark, colon}
 use Rattle.text.proofs.LexBase.{length_part}
 use Rattle.names.specs.declared.names.Link.{Link}
 use Rattle.names.specs.declared.part.Part.{Part}
-use Rattle.names.specs.Parts.{holder, start_of, end_of}
+use Rattle.names.specs.Parts.{lies_in, start_of, end_of}
 use Rattle.names.proofs.Growth.{sound_pool, names_pool, sound_none}
 use Rattle.names.specs.Index.{names_from}
 use Rattle.reader.specs.Tokens.{sees}
@@ -16,7 +16,7 @@ use Rattle.reader.specs.Told.{PartFor, NamesHeld, NewTold}
 use Rattle.std.proofs.lemmas.List.{drop_all}
 
 pub part_length : {text before after n : List ℕ} {p : Part} → PartFor text before after n p → length n ≡ end_of p - start_of p
-part_length {text} {before} {after} {n} {p} h = sym (ap length h.is) ∙ length_part (holder text after p) (start_of p) (end_of p) h.fits.1
+part_length {text} {before} {after} {n} {p} h = sym (ap length h.is) ∙ length_part (lies_in text after p) (start_of p) (end_of p) h.fits.1
 
 -- the names held, with a longer pool
 pub held_pool : (distinct : Bool) (text pool pool' : List ℕ) (links : List Link) (base : ℕ) (ns : List Name) (more : List ℕ) → pool' ≡ pool ++ more → NamesHeld distinct text pool links base ns → NamesHeld distinct text pool' links base ns
@@ -43,8 +43,8 @@ module _ (distinct : Bool) (text pool pool' q : List ℕ) (base : ℕ) (before a
       let g = subst (λ x. NewTold distinct text x base before after p (Ok false)) e (subst (λ x. NewTold distinct text q base before after p (Ok x)) t w) in
       subst (λ x. repeats distinct ns x ≡ true) f.is (g ns f.fits before_held)
 
-pub colon_there : (n : Name) (b e : ℕ) (x : Lexical) → is_mark colon x ≡ true → colon_after n (sees b e x) ≡ got e n
-colon_there n b e x h = cond-true (is_mark colon x) _ _ h
+pub colon_there : (n : Name) (b e : ℕ) (x : Lexical) → x ≡ a_mark colon → colon_after n (sees b e x) ≡ got e n
+colon_there n b e x h = cond-true (is_mark colon x) _ _ (ap (is_mark colon) h)
 
 pub colon_lacks : (n : Name) (b e : ℕ) (x : Lexical) → is_mark colon x ≡ false → colon_after n (sees b e x) ≡ fails (BadText b)
 colon_lacks n b e x h = cond-false (is_mark colon x) _ _ h

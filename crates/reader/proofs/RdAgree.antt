@@ -2,7 +2,7 @@
 use Rattle.std.proofs.Common.{◌≡◌, ℕ, suc, ◌+◌, ◌≤◌, Bool, true, false, cond, List, [], ◌∷◌, ◌++◌, length, sym, refl, ap, ◌∙◌, subst, arith}
 use mathlib.Core.Option.{some}
 use Rattle.std.proofs.lemmas.Bool.{cond-true, cond-false}
-use Rattle.model.specs.Values.{Name, Raw, Raws, Mems, null, scalar, variable, list, object, nil, cons, end, mem}
+use Rattle.model.specs.Values.{Name, Raw, Raws, Mems, variable, list, object, nil, cons, end, mem}
 use Rattle.model.specs.Limits.{mem_names}
 use Rattle.text.specs.declared.fault.Fault.{Fault}
 use Rattle.text.specs.declared.fault.Fault.TheVariants.{BadText}
@@ -10,47 +10,23 @@ use Rattle.text.specs.declared.language.Language.{Language}
 use Rattle.text.specs.declared.language.Language.TheVariants.{Json, Graphql}
 use Rattle.text.specs.declared.number.NumberKind.{NumberKind}
 use Rattle.text.specs.NumberGrammar.{Number}
-use Rattle.text.specs.TokenGrammar.{Mark, dollar, colon, open_bracket, close_bracket, open_brace, close_brace, comma, Lexical, a_mark, a_name, a_number, a_string, the_end}
+use Rattle.text.specs.TokenGrammar.{Mark, dollar, colon, open_bracket, close_bracket, open_brace, close_brace, comma, Lexical, a_mark, a_name, a_number, the_end}
 use Rattle.reader.specs.Tokens.{Sight, sees, blind}
-use Rattle.reader.specs.Grammar.{Leaf, l_null, l_true, l_false, l_symbol, l_whole, l_decimal, l_string, name_of, Separated, Value, g_leaf, g_variable, g_list, g_object, Values, g_nil, g_values, SomeValues, g_last, g_more, Members, g_end, g_members, SomeMembers, g_last_member, g_more_members, Member, g_member, Text}
+use Rattle.reader.specs.Grammar.{Leaf, name_of, Separated, Value, g_leaf, g_variable, g_list, g_object, Values, g_nil, g_values, SomeValues, g_last, g_more, Members, g_end, g_members, SomeMembers, g_last_member, g_more_members, Member, g_member, Text}
 use Rattle.reader.specs.Reading.{Out, got, fails, Starts, starts_leaf, starts_list, starts_object, starts_variable, is_mark, sees_mark, Turn, done, again, halts, turn, as_list, as_object, ahead, ahead_member, as_variable, colon_after, repeats, NameAt, na_blind, na_none, na_long, na_repeated, na_name, Reads, r_blind, r_none, r_deep, r_leaf, r_variable, r_list, r_object, ReadsList, rl_nil, rl_items, ReadsItems, ri_fails, ri_halts, ri_last, ri_more, ReadsObject, ro_end, ro_members, ReadsMembers, rm_unnamed, rm_fails, rm_halts, rm_last, rm_more, after_all, ReadsAll, all_fails, all_read, Unrepeated, Bounded, BoundedAll, BoundedMems}
-use Rattle.reader.proofs.RdSame.{one_leaf}
+use Rattle.reader.proofs.RdSame.{one_leaf, leaf_no_mark, no_both, leaf_mark}
 use Rattle.reader.proofs.RdSound.{is_mark_lem, Fresh, unrepeated_fresh}
 
--- a value that is one token, or whose token is a name, does not begin with a mark
-leaf_no_mark : {s : ℕ} {x : Lexical} {t : Raw} → Leaf s x t → (m : Mark) → is_mark m x ≡ false
-leaf_no_mark (l_null e) m = refl
-leaf_no_mark (l_true e) m = refl
-leaf_no_mark (l_false e) m = refl
-leaf_no_mark (l_symbol a b c) m = refl
-leaf_no_mark (l_whole a) m = refl
-leaf_no_mark (l_decimal a) m = refl
-leaf_no_mark (l_string e) m = refl
-
-no_both : {b : Bool} → b ≡ true → b ≡ false → ⊥
-no_both p q = let z : ◌≡◌ {A = ℕ} 0 1 = cc in omega arith
-
-leaf_mark : {s : ℕ} {x : Lexical} {t : Raw} → Leaf s x t → (m : Mark) → x ≡ a_mark m → ⊥
-leaf_mark l m h = no_both (ap (is_mark m) h ∙ is_mark_lem m) (leaf_no_mark l m)
-
+-- a value whose token is a name does not begin with a mark
 name_no_mark : (language : Language) (x : Lexical) (n : Name) (m : Mark) → name_of language x ≡ some n → is_mark m x ≡ false
 name_no_mark Json (a_mark k) n m h = let z : ◌≡◌ {A = ℕ} 0 1 = cc in absurd (omega arith)
-name_no_mark Json (a_name w) n m h = refl
-name_no_mark Json (a_number k ds) n m h = refl
-name_no_mark Json (a_string cs) n m h = refl
-name_no_mark Json the_end n m h = refl
 name_no_mark Graphql (a_mark k) n m h = let z : ◌≡◌ {A = ℕ} 0 1 = cc in absurd (omega arith)
-name_no_mark Graphql (a_name w) n m h = refl
-name_no_mark Graphql (a_number k ds) n m h = refl
-name_no_mark Graphql (a_string cs) n m h = refl
-name_no_mark Graphql the_end n m h = refl
+name_no_mark language _ n m h = refl
 
 deep_enough : (distinct : Bool) (k : ℕ) (t : Raw) → Bounded distinct k t → k ≤ 32
-deep_enough distinct k (null at) h = h
-deep_enough distinct k (scalar at s) h = h
-deep_enough distinct k (variable at n) h = h
 deep_enough distinct k (list at xs) h = h.0
 deep_enough distinct k (object at ms) h = h.0
+deep_enough distinct k _ h = h
 
 -- a token stands at a place that is not the closing mark
 pub record Opens (T : ℕ → ℕ → ℕ → Lexical → Type 0) (close : Mark) (i : ℕ) : Type 0 where

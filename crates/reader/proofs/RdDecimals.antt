@@ -88,19 +88,20 @@ power_of : {e : List ℕ} → (x : Optional IsExp e) → (p : ℤ) × Power e p 
 power_of without = (pos 0, no_power, inl refl)
 power_of (with (exp m s a r)) = exp_of m s a r
 
-record Sized (text : List ℕ) (size : ℕ) : Type 0 where
-  n : Bool
-  a : ℕ
-  s : ℤ
-  p : ℤ
+pub record Sized (text : List ℕ) (size : ℕ) : Type 0 where
+  pub n : Bool
+  pub a : ℕ
+  pub s : ℤ
+  pub p : ℤ
   places : ℕ
-  writes : Writes text n a s
+  pub writes : Writes text n a s
+  pub power : writes.p ≡ p
   below : a < 10 ^ length text
   scales : s ≡ p -ℤ pos places
   few : places ≤ length text
-  sizes : (p ≡ pos size) ⊎ (p ≡ neg_ℤ (pos size))
+  pub sizes : (p ≡ pos size) ⊎ (p ≡ neg_ℤ (pos size))
 
-sized : {text : List ℕ} {kind : NumberKind} (x : Number text kind) → Sized text (exponent_of x)
+pub sized : {text : List ℕ} {kind : NumberKind} (x : Number text kind) → Sized text (exponent_of x)
 sized {text} x =
     let n = minus_of x.sign in
     let f = fraction_of x.fraction in
@@ -135,6 +136,7 @@ sized {text} x =
         amounts = refl;
         scales = refl;
       };
+      power = refl;
       below = omega (arith, parts, same, up, both, all);
       scales = refl;
       few = omega (arith, long, few);

@@ -13,7 +13,7 @@ use Rattle.text.specs.declared.language.Language.TheVariants.{Json, Graphql}
 use Rattle.text.specs.declared.number.NumberKind.TheVariants.{Whole, Decimal}
 use Rattle.text.specs.NormalForm.{WholeOf}
 use Rattle.text.specs.StringGrammar.{Utf8Char, utf8, Hex4, hex4, Low, low, Code, lone, pair, Short, quote, backslash, slash, backspace, form_feed, line_feed, carriage_return, tab, Escape, short, unicode, Char, unescaped, escape, Run, none, more}
-use Rattle.text.specs.TokenGrammar.{Lexical, a_mark, a_name, a_number, a_string, the_end, Numeral, LiteralName, false_name, null_name, true_name, NameStart, NameContinue, NameRest, name_ends, name_goes, TokenOf, json_literal, json_string, graphql_name, graphql_empty, graphql_string}
+use Rattle.text.specs.TokenGrammar.{Lexical, a_name, a_string, Numeral, LiteralName, false_name, null_name, true_name, NameStart, NameContinue, NameRest, name_ends, name_goes, TokenOf, json_literal, json_string, graphql_name, graphql_empty, graphql_string}
 use Rattle.text.proofs.NormLaws.{whole_normal}
 use Rattle.reader.specs.Tokens.{TokenIs}
 use Rattle.reader.specs.Grammar.{Leaf, l_null, l_true, l_false, l_symbol, l_whole, l_decimal, l_string, name_of, Value, g_leaf, g_variable, g_list, g_object, Values, g_nil, g_values, SomeValues, g_last, g_more, Members, g_end, g_members, SomeMembers, g_last_member, g_more_members, Member, g_member}
@@ -126,16 +126,10 @@ leaf_limits language xs r a (l_string {cs} {bs} e) k b = (b, token_text language
 
 -- the name of a member
 member_name_lem : (language : Language) (xs r : List ℕ) (x : Lexical) (n : Name) → TokenOf language xs x r → name_of language x ≡ some n → length n ≤ 127 → NameLimits n
-member_name_lem Json xs r (a_mark m) n a e h = let z : ◌≡◌ {A = ℕ} 0 1 = cc in absurd (omega arith)
-member_name_lem Json xs r (a_name w) n a e h = let z : ◌≡◌ {A = ℕ} 0 1 = cc in absurd (omega arith)
-member_name_lem Json xs r (a_number k ds) n a e h = let z : ◌≡◌ {A = ℕ} 0 1 = cc in absurd (omega arith)
 member_name_lem Json xs r (a_string cs) n a e h = let z : encodes cs ≡ n = cc in record { short = h; utf8 = token_text Json xs cs n r a z }
-member_name_lem Json xs r the_end n a e h = let z : ◌≡◌ {A = ℕ} 0 1 = cc in absurd (omega arith)
-member_name_lem Graphql xs r (a_mark m) n a e h = let z : ◌≡◌ {A = ℕ} 0 1 = cc in absurd (omega arith)
 member_name_lem Graphql xs r (a_name w) n a e h = let z : w ≡ n = cc in subst NameLimits z (token_name Graphql xs w r a)
-member_name_lem Graphql xs r (a_number k ds) n a e h = let z : ◌≡◌ {A = ℕ} 0 1 = cc in absurd (omega arith)
-member_name_lem Graphql xs r (a_string cs) n a e h = let z : ◌≡◌ {A = ℕ} 0 1 = cc in absurd (omega arith)
-member_name_lem Graphql xs r the_end n a e h = let z : ◌≡◌ {A = ℕ} 0 1 = cc in absurd (omega arith)
+member_name_lem Json xs r _ n a e h = let z : ◌≡◌ {A = ℕ} 0 1 = cc in absurd (omega arith)
+member_name_lem Graphql xs r _ n a e h = let z : ◌≡◌ {A = ℕ} 0 1 = cc in absurd (omega arith)
 
 -- over whatever tells which tokens stand
 module _ (T : ℕ → ℕ → ℕ → Lexical → Type 0) (language : Language) (token : (i s e : ℕ) (x : Lexical) → T i s e x → (xs : List ℕ) × (r : List ℕ) × TokenOf language xs x r) where

@@ -1,5 +1,5 @@
 -- Reading has one outcome.
-use Rattle.std.proofs.Common.{◌≡◌, ℕ, ◌-◌, ◌<◌, ◌≤◌, Bool, true, false, List, [], ◌∷◌, ◌++◌, length, get_or, sym, refl, ap, ◌∙◌, subst, ⊎_elim, arith}
+use Rattle.std.proofs.Common.{◌≡◌, ℕ, ◌-◌, ◌<◌, ◌≤◌, Bool, true, false, List, [], ◌∷◌, ◌++◌, length, get_or, sym, refl, ap, ◌∙◌, subst, ⊎_elim, true≢false, arith}
 use mathlib.Core.Option.{Option, none, some}
 use Rattle.std.proofs.lemmas.Bool.{cases_Bool}
 use Rattle.model.specs.Values.{Name, Dec, whole, decimal, string, Raw, Raws, Mems, scalar, variable as a_variable, list as a_list, object as an_object, nil, cons, end, mem, same as same_name}
@@ -12,9 +12,10 @@ use Rattle.text.specs.NumberGrammar.{Number}
 use Rattle.text.specs.NormalForm.{WholeOf}
 use Rattle.text.specs.TokenGrammar.{Mark, dollar, open_bracket, close_bracket, open_brace, close_brace, Lexical, a_mark, a_number}
 use Rattle.text.proofs.NormLaws.{equal_numbers_equal_forms, numbers_write, worth_is_equivalence}
+use Rattle.reader.proofs.RdSound.{is_mark_lem}
 use Rattle.reader.specs.Tokens.{Sight, sees, blind}
 use Rattle.reader.specs.Grammar.{NormalOf, Leaf, l_null, l_true, l_false, l_symbol, l_whole, l_decimal, l_string, name_of}
-use Rattle.reader.specs.Reading.{Out, got, fails, Starts, starts_leaf, starts_list, starts_object, starts_variable, sees_mark, Turn, done, again, halts, turn, as_list, as_object, ahead, ahead_member, as_variable, colon_after, repeats, NameAt, na_blind, na_none, na_long, na_repeated, na_name, Reads, r_blind, r_none, r_deep, r_leaf, r_variable, r_list, r_object, ReadsList, rl_nil, rl_items, ReadsItems, ri_fails, ri_halts, ri_last, ri_more, ReadsObject, ro_end, ro_members, ReadsMembers, rm_unnamed, rm_fails, rm_halts, rm_last, rm_more, after_all, ReadsAll, all_fails, all_read}
+use Rattle.reader.specs.Reading.{Out, got, fails, Starts, starts_leaf, starts_list, starts_object, starts_variable, is_mark, sees_mark, Turn, done, again, halts, turn, as_list, as_object, ahead, ahead_member, as_variable, colon_after, repeats, NameAt, na_blind, na_none, na_long, na_repeated, na_name, Reads, r_blind, r_none, r_deep, r_leaf, r_variable, r_list, r_object, ReadsList, rl_nil, rl_items, ReadsItems, ri_fails, ri_halts, ri_last, ri_more, ReadsObject, ro_end, ro_members, ReadsMembers, rm_unnamed, rm_fails, rm_halts, rm_last, rm_more, after_all, ReadsAll, all_fails, all_read}
 
 -- a whole number has one normal form
 pub one_whole : (ds r q : List ℕ) → WholeOf ds r → WholeOf ds q → r ≡ q
@@ -59,14 +60,15 @@ one_leaf {s} num (l_decimal {ds} {d} a) (l_decimal {d = c} b) = ap (λ l. scalar
 one_leaf {s} num (l_string e) (l_string f) = ap (λ l. scalar s (string l)) (sym e ∙ f)
 
 -- no such value is a mark
-leaf_mark : {s : ℕ} {x : Lexical} {t : Raw} → Leaf s x t → (m : Mark) → x ≡ a_mark m → ⊥
-leaf_mark (l_null e) m h = let z : ◌≡◌ {A = ℕ} 0 1 = cc in omega arith
-leaf_mark (l_true e) m h = let z : ◌≡◌ {A = ℕ} 0 1 = cc in omega arith
-leaf_mark (l_false e) m h = let z : ◌≡◌ {A = ℕ} 0 1 = cc in omega arith
-leaf_mark (l_symbol a b c) m h = let z : ◌≡◌ {A = ℕ} 0 1 = cc in omega arith
-leaf_mark (l_whole a) m h = let z : ◌≡◌ {A = ℕ} 0 1 = cc in omega arith
-leaf_mark (l_decimal a) m h = let z : ◌≡◌ {A = ℕ} 0 1 = cc in omega arith
-leaf_mark (l_string e) m h = let z : ◌≡◌ {A = ℕ} 0 1 = cc in omega arith
+pub leaf_no_mark : {s : ℕ} {x : Lexical} {t : Raw} → Leaf s x t → (m : Mark) → is_mark m x ≡ false
+leaf_no_mark (l_null e) m = refl
+leaf_no_mark _ m = refl
+
+pub no_both : {b : Bool} → b ≡ true → b ≡ false → ⊥
+no_both p q = true≢false (sym p ∙ q)
+
+pub leaf_mark : {s : ℕ} {x : Lexical} {t : Raw} → Leaf s x t → (m : Mark) → x ≡ a_mark m → ⊥
+leaf_mark l m h = no_both (ap (is_mark m) h ∙ is_mark_lem m) (leaf_no_mark l m)
 
 -- what an outcome is, by the token seen
 record ViewAt (N : ℕ → Sight → Type 0) (language : Language) (distinct : Bool) (d s e : ℕ) (x : Lexical) (p : Out Raw) : Type 0 where
@@ -122,9 +124,6 @@ Named N language distinct d ns p (fails f) = fails f ≡ p
 abbrev AllAfter : (N : ℕ → Sight → Type 0) → Out Raw → Out Raw → Type 0
 AllAfter N p (got j t) = (v : Sight) × N j v × (after_all t v ≡ p)
 AllAfter N p (fails f) = fails f ≡ p
-
-no_both : {b : Bool} → b ≡ true → b ≡ false → ⊥
-no_both p q = let z : ◌≡◌ {A = ℕ} 0 1 = cc in omega arith
 
 module _ (N : ℕ → Sight → Type 0) (one : (i : ℕ) (v w : Sight) → N i v → N i w → v ≡ w)
     (num : (i s e : ℕ) (k : NumberKind) (ds : List ℕ) → N i (sees s e (a_number k ds)) → Number ds k)

@@ -1,7 +1,7 @@
 -- What is seen from a place on is one thing, and it is the token that stands there.
 use Rattle.std.proofs.Common.{◌≡◌, ℕ, ◌≤◌, List, length, drop, sym, ap, subst}
 use Rattle.text.specs.declared.fault.Fault.{Fault}
-use Rattle.text.specs.declared.fault.Fault.TheVariants.{BadText, TooDeep, NoSpace, RepeatedName, LongNumber, NoMemory}
+use Rattle.text.specs.declared.fault.Fault.TheVariants.{BadText, LongNumber}
 use Rattle.text.specs.declared.language.Language.{Language}
 use Rattle.text.specs.declared.language.Language.TheVariants.{Json, Graphql}
 use Rattle.text.specs.declared.number.NumberKind.{NumberKind}
@@ -41,10 +41,7 @@ seen_sure language text i a b s e y x h t =
 refused_not : (language : Language) (text : List ℕ) (i s e : ℕ) (x : Lexical) (f : Fault) → TokenRefused language text i f → TokenIs language text i s e x → ⊥
 refused_not language text i s e x (BadText k) h t = h.1.none x (drop e text) (moved language text i k s e x h.0 t)
 refused_not language text i s e x (LongNumber k) h t = long_token language text k x (drop e text) (moved language text i k s e x h.0 t) h.1
-refused_not language text i s e x (TooDeep k) h t = h
-refused_not language text i s e x (NoSpace k) h t = h
-refused_not language text i s e x (RepeatedName k) h t = h
-refused_not language text i s e x NoMemory h t = h
+refused_not language text i s e x _ h t = h
 
 -- a token that stands there is what is seen
 pub sure : (language : Language) (text : List ℕ) (i s e : ℕ) (x : Lexical) (v : Sight) → Sights language text i v → TokenIs language text i s e x → v ≡ sees s e x
@@ -61,20 +58,11 @@ not_both language text i j k s n t l = n.not_long (subst (LongAt text) (one_skip
 one_fault : (language : Language) (text : List ℕ) (i : ℕ) (f g : Fault) → TokenRefused language text i f → TokenRefused language text i g → f ≡ g
 one_fault language text i (BadText j) (BadText k) s t = ap BadText (one_skip language text i j k s.0 t.0)
 one_fault language text i (BadText j) (LongNumber k) s t = absurd (not_both language text i j k s.0 s.1 t.0 t.1)
-one_fault language text i (BadText j) (TooDeep k) s t = absurd t
-one_fault language text i (BadText j) (NoSpace k) s t = absurd t
-one_fault language text i (BadText j) (RepeatedName k) s t = absurd t
-one_fault language text i (BadText j) NoMemory s t = absurd t
+one_fault language text i (BadText j) _ s t = absurd t
 one_fault language text i (LongNumber j) (BadText k) s t = absurd (not_both language text i k j t.0 t.1 s.0 s.1)
 one_fault language text i (LongNumber j) (LongNumber k) s t = ap LongNumber (one_skip language text i j k s.0 t.0)
-one_fault language text i (LongNumber j) (TooDeep k) s t = absurd t
-one_fault language text i (LongNumber j) (NoSpace k) s t = absurd t
-one_fault language text i (LongNumber j) (RepeatedName k) s t = absurd t
-one_fault language text i (LongNumber j) NoMemory s t = absurd t
-one_fault language text i (TooDeep j) g s t = absurd s
-one_fault language text i (NoSpace j) g s t = absurd s
-one_fault language text i (RepeatedName j) g s t = absurd s
-one_fault language text i NoMemory g s t = absurd s
+one_fault language text i (LongNumber j) _ s t = absurd t
+one_fault language text i _ g s t = absurd s
 
 pub one_sight : (language : Language) (text : List ℕ) (i : ℕ) (v w : Sight) → Sights language text i v → Sights language text i w → v ≡ w
 one_sight language text i (sees s e x) (sees a b y) h g = seen_sure language text i s e a b x y h (seen_is g)

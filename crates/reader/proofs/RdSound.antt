@@ -10,9 +10,9 @@ use Rattle.text.specs.declared.fault.Fault.{Fault}
 use Rattle.text.specs.declared.fault.Fault.TheVariants.{BadText}
 use Rattle.text.specs.declared.language.Language.{Language}
 use Rattle.text.specs.declared.language.Language.TheVariants.{Json, Graphql}
-use Rattle.text.specs.TokenGrammar.{Mark, bang, dollar, ampersand, open_paren, close_paren, spread, colon, equals, at_sign, open_bracket, close_bracket, open_brace, pipe, close_brace, comma, Lexical, a_mark, a_name, a_number, a_string, the_end}
+use Rattle.text.specs.TokenGrammar.{Mark, bang, dollar, ampersand, open_paren, close_paren, spread, colon, equals, at_sign, open_bracket, close_bracket, open_brace, pipe, close_brace, comma, Lexical, a_mark, a_name, the_end}
 use Rattle.reader.specs.Tokens.{Sight, sees, blind}
-use Rattle.reader.specs.Grammar.{Leaf, l_null, l_true, l_false, l_symbol, l_whole, l_decimal, l_string, name_of, Separated, Value, g_leaf, g_variable, g_list, g_object, Values, g_nil, g_values, SomeValues, g_last, g_more, Members, g_end, g_members, SomeMembers, g_last_member, g_more_members, Member, g_member, Text}
+use Rattle.reader.specs.Grammar.{Leaf, l_null, name_of, Separated, Value, g_leaf, g_variable, g_list, g_object, Values, g_nil, g_values, SomeValues, g_last, g_more, Members, g_end, g_members, SomeMembers, g_last_member, g_more_members, Member, g_member, Text}
 use Rattle.reader.specs.Reading.{Out, got, fails, mark_number, is_mark, done, again, halts, turn, as_list, as_object, ahead, ahead_member, as_variable, colon_after, repeats, NameAt, na_blind, na_none, na_long, na_repeated, na_name, Reads, r_blind, r_none, r_deep, r_leaf, r_variable, r_list, r_object, ReadsList, rl_nil, rl_items, ReadsItems, ri_fails, ri_halts, ri_last, ri_more, ReadsObject, ro_end, ro_members, ReadsMembers, rm_unnamed, rm_fails, rm_halts, rm_last, rm_more, after_all, ReadsAll, all_fails, all_read, Unrepeated, Bounded, BoundedAll, BoundedMems}
 
 -- a mark is told by its number
@@ -24,27 +24,11 @@ mark_of n =
 
 mark_back : (m : Mark) → mark_of (mark_number m) ≡ m
 mark_back bang = refl
-mark_back dollar = refl
-mark_back ampersand = refl
-mark_back open_paren = refl
-mark_back close_paren = refl
-mark_back spread = refl
-mark_back colon = refl
-mark_back equals = refl
-mark_back at_sign = refl
-mark_back open_bracket = refl
-mark_back close_bracket = refl
-mark_back open_brace = refl
-mark_back pipe = refl
-mark_back close_brace = refl
-mark_back comma = refl
+mark_back _ = refl
 
 pub mark_is : (m : Mark) (x : Lexical) → is_mark m x ≡ true → x ≡ a_mark m
 mark_is m (a_mark k) h = ap a_mark (sym (sym (mark_back m) ∙ ap mark_of (eqb-true (mark_number m) (mark_number k) h) ∙ mark_back k))
-mark_is m (a_name w) h = absurd (false≢true h)
-mark_is m (a_number k ds) h = absurd (false≢true h)
-mark_is m (a_string cs) h = absurd (false≢true h)
-mark_is m the_end h = absurd (false≢true h)
+mark_is m _ h = absurd (false≢true h)
 
 pub is_mark_lem : (m : Mark) → is_mark m (a_mark m) ≡ true
 is_mark_lem m = eq-eqb (mark_number m) (mark_number m) refl
@@ -97,12 +81,7 @@ unrepeated_fresh false ms d = fresh_any [] ms
 
 pub leaf_bounded : (distinct : Bool) (k : ℕ) {s : ℕ} {x : Lexical} {t : Raw} → Leaf s x t → k ≤ 32 → Bounded distinct k t
 leaf_bounded distinct k (l_null e) h = h
-leaf_bounded distinct k (l_true e) h = h
-leaf_bounded distinct k (l_false e) h = h
-leaf_bounded distinct k (l_symbol a b c) h = h
-leaf_bounded distinct k (l_whole a) h = h
-leaf_bounded distinct k (l_decimal a) h = h
-leaf_bounded distinct k (l_string e) h = h
+leaf_bounded distinct k _ h = h
 
 -- the tests of a turn
 json_done : (b c : Bool) (e a : ℕ) (f : Fault) → cond b (done e) (cond c (again e) (halts f)) ≡ done a → (b ≡ true) × (e ≡ a)
@@ -190,12 +169,8 @@ module _ (N : ℕ → Sight → Type 0) (T : ℕ → ℕ → ℕ → Lexical →
 
   module _ (language : Language) (distinct : Bool) where
     variable_sound : (i s e k : ℕ) (v : Sight) (o : Out Raw) → T i s e (a_mark dollar) → N e v → k ≤ 32 → as_variable s v ≡ o → Sound T language distinct i k o
-    variable_sound i s e k (sees b j (a_mark m)) o a n h z = subst (Sound T language distinct i k) z tt
     variable_sound i s e k (sees b j (a_name w)) o a n h z = subst (Sound T language distinct i k) z (g_variable a (seen e b j (a_name w) n), h)
-    variable_sound i s e k (sees b j (a_number m ds)) o a n h z = subst (Sound T language distinct i k) z tt
-    variable_sound i s e k (sees b j (a_string cs)) o a n h z = subst (Sound T language distinct i k) z tt
-    variable_sound i s e k (sees b j the_end) o a n h z = subst (Sound T language distinct i k) z tt
-    variable_sound i s e k (blind f) o a n h z = subst (Sound T language distinct i k) z tt
+    variable_sound i s e k _ o a n h z = subst (Sound T language distinct i k) z tt
 
     list_sound : (i s e k : ℕ) (q : Out Raws) (o : Out Raw) → T i s e (a_mark open_bracket) → k ≤ 32 → SoundList T language distinct e (suc k) q → as_list s q ≡ o → Sound T language distinct i k o
     list_sound i s e k (got j xs) o a h r z = subst (Sound T language distinct i k) z (g_list a r.0, (h, r.1))
@@ -285,12 +260,8 @@ module _ (N : ℕ → Sight → Type 0) (T : ℕ → ℕ → ℕ → Lexical →
     sound_members r k w = comes_members r k w
 
     all_sound : (j : ℕ) (t : Raw) (v : Sight) (o : Out Raw) → Value T language 0 j t × Bounded distinct 0 t → N j v → after_all t v ≡ o → SoundAll T language distinct o
-    all_sound j t (sees s e (a_mark m)) o a n z = subst (SoundAll T language distinct) z tt
-    all_sound j t (sees s e (a_name w)) o a n z = subst (SoundAll T language distinct) z tt
-    all_sound j t (sees s e (a_number k ds)) o a n z = subst (SoundAll T language distinct) z tt
-    all_sound j t (sees s e (a_string cs)) o a n z = subst (SoundAll T language distinct) z tt
     all_sound j t (sees s e the_end) o a n z = subst (SoundAll T language distinct) z (record { to = j; from = s; last = e; value = a.0; ends = seen j s e the_end n }, a.1)
-    all_sound j t (blind f) o a n z = subst (SoundAll T language distinct) z tt
+    all_sound j t _ o a n z = subst (SoundAll T language distinct) z tt
 
     comes_all : {d : ℕ} {o : Out Raw} → ReadsAll N language distinct d o → d ≡ 33 → SoundAll T language distinct o
     comes_all (all_fails r) h = tt

@@ -4,8 +4,9 @@ use lib.Seq.{get_or_at}
 use Rattle.std.proofs.lemmas.List.{get_or_append_left}
 use Rattle.std.proofs.lemmas.Bool.{cond-true}
 use Rattle.model.specs.Values.{Raw, place_of}
-use Rattle.names.specs.Parts.{PartFits, bytes_of}
+use Rattle.names.specs.Parts.{MayFit, bytes_if_any}
 use Rattle.source.specs.declared.nodes.Node.{Node}
+use Rattle.source.specs.Contents.{text_in}
 use Rattle.source.specs.Heads.{kind_of, flag_of, text_of, negative_of, exponent_of}
 use Rattle.source.specs.Nodes.{node_at, blank, sized, closed}
 use Rattle.source.specs.Table.{Table, Says, Head, Keeps}
@@ -106,8 +107,8 @@ says_bare {T} {U} {n} {t} a b s = record {
   flag = s.flag;
   negative = s.negative;
   exponent = s.exponent;
-  fits = subst (λ x. PartFits x U.pool n.text) a (subst (λ x. PartFits T.text x n.text) b s.fits);
-  text = sym (ap (λ x. bytes_of x U.pool n.text) a) ∙ sym (ap (λ x. bytes_of T.text x n.text) b) ∙ s.text;
+  fits = subst (λ x. MayFit x U.pool (text_in n.content)) a (subst (λ x. MayFit T.text x (text_in n.content)) b s.fits);
+  text = sym (ap (λ x. bytes_if_any x U.pool (text_in n.content)) a) ∙ sym (ap (λ x. bytes_if_any T.text x (text_in n.content)) b) ∙ s.text;
 }
 
 -- a value without items or members stands at its node

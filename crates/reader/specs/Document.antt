@@ -7,11 +7,12 @@ use Rattle.text.specs.declared.fault.Fault.TheVariants.{BadText}
 use Rattle.text.specs.declared.language.Language.{Language}
 use Rattle.source.specs.declared.tree.Tree.{Tree}
 use Rattle.source.specs.Table.{Table, tree_table, Stands, Held}
-use Rattle.reader.specs.declared.manner.Manner.{Manner}
+use Rattle.reader.specs.declared.reading.Reader.{Reader}
+use Rattle.reader.specs.Manner.{Manner}
 use Rattle.reader.specs.Tokens.{TokenIs, Sights}
 use Rattle.reader.specs.Grammar.{Text}
 use Rattle.reader.specs.Reading.{Out, got, fails, ReadsAll}
-use Rattle.reader.specs.Told.{Blames}
+use Rattle.reader.specs.Told.{Blames, manner_of}
 
 -- the text is at most 65,535 bytes long, and all of it is the value t, within the limits
 pub record Writes (language : Language) (text : List ℕ) (t : Raw) : Type 0 where
@@ -25,7 +26,7 @@ pub data FirstFault (language : Language) (text : List ℕ) : Fault → Type 0 w
   reading : {f : Fault} → length text ≤ 65535 → ReadsAll (Sights language text) language true 33 (fails f) → FirstFault language text f
 
 -- the value that the text writes, and no other, stands at the first node of the table
-pub record Parsed (language : Language) (text : List ℕ) (T : Table) : Type 0 where
+pub record Readable (language : Language) (text : List ℕ) (T : Table) : Type 0 where
   pub tree : Raw
   pub writes : Writes language text tree
   pub only : (u : Raw) → Writes language text u → u ≡ tree
@@ -38,7 +39,7 @@ pub record Unreadable (language : Language) (text : List ℕ) (f : Fault) : Type
 
 -- what reading all of a text comes to
 abbrev pub Document : Language → List ℕ → Result Table Fault → Type 0
-Document language text (Ok T) = Parsed language text T
+Document language text (Ok T) = Readable language text T
 Document language text (Err f) = Blames f (Unreadable language text)
 
 -- the same before the limits are told
@@ -53,9 +54,9 @@ pub data FaultWhole (m : Manner) (text : List ℕ) : Fault → Type 0 where
   whole_long : {f : Fault} → 65535 < length text → f ≡ BadText 0 → FaultWhole m text f
   whole_read : {f : Fault} → length text ≤ 65535 → ReadsAll (Sights m.language text) m.language m.distinct 33 (fails f) → FaultWhole m text f
 
-abbrev pub WholeTold : Manner → List ℕ → Result Tree Fault → Type 0
-WholeTold m text (Ok t) = ReadWhole m text (tree_table t)
-WholeTold m text (Err f) = Blames f (FaultWhole m text)
+abbrev pub WholeTold : {W : Type 0} → Language → Reader W → Result Tree Fault → Type 0
+WholeTold language r (Ok t) = ReadWhole (manner_of language r) r.text.now (tree_table t)
+WholeTold language r (Err f) = Blames f (FaultWhole (manner_of language r) r.text.now)
 
 -- the table behind a result
 abbrev pub table_in : {X : Type 0} → (X → Table) → Result X Fault → Result Table Fault

@@ -1,6 +1,6 @@
+pub mod Manner
 pub mod Tokens
 pub mod Grammar
 pub mod Reading
-pub mod Closings
 pub mod Told
 pub mod Document

@@ -1,5 +1,6 @@
 -- What the functions of the reader promise.
-use Rattle.std.specs.Prelude.{◌≡◌, ℕ, ◌<◌, ◌≤◌, Bool, true, false, List, [], ◌∷◌, ◌++◌, length, take, drop, Ok, Err, Result}
+use Rattle.std.specs.Prelude.{◌≡◌, ℕ, ◌-◌, ◌<◌, ◌≤◌, Bool, true, false, List, [], ◌∷◌, ◌++◌, length, take, drop, None, Ok, Err, Option, Result, vec_items}
+use Rattle.std.specs.declared.alloc.AllocError.{AllocError}
 use Rattle.std.specs.declared.ops.ControlFlow.{ControlFlow}
 use Rattle.std.specs.declared.ops.ControlFlow.TheVariants.{Continue, Break}
 use Rattle.std.proofs.Math.Option.{none, some}
@@ -10,16 +11,20 @@ use Rattle.text.specs.declared.language.Language.{Language}
 use Rattle.text.specs.declared.language.Language.TheVariants.{Graphql}
 use Rattle.text.specs.declared.token.Lexeme.{Lexeme}
 use Rattle.text.specs.Places.{is_end}
-use Rattle.text.specs.TokenGrammar.{Mark, Lexical, TokenOf}
+use Rattle.text.specs.TokenGrammar.{Mark, Lexical, TokenOf, a_mark}
 use Rattle.text.specs.TokenFound.{view_of, Holds}
 use Rattle.names.specs.declared.names.Link.{Link}
+use Rattle.names.specs.declared.names.Names.{Names}
 use Rattle.names.specs.declared.part.Part.{Part}
 use Rattle.names.specs.Parts.{PartFits, bytes_of}
 use Rattle.names.specs.Index.{Sound, names_from}
+use Rattle.source.specs.declared.nodes.Content.{Content}
 use Rattle.source.specs.declared.nodes.Node.{Node}
-use Rattle.source.specs.Nodes.{node_at}
-use Rattle.source.specs.Table.{Table, Says, Stands, StandsAll, StandsMems, Keeps, past_of}
-use Rattle.reader.specs.declared.manner.Manner.{Manner}
+use Rattle.source.specs.declared.nodes.Nodes.{Nodes}
+use Rattle.source.specs.Nodes.{node_at, headed}
+use Rattle.source.specs.Table.{Table, table_of, Says, Stands, StandsAll, StandsMems, Keeps, past_of}
+use Rattle.reader.specs.declared.reading.Reader.{Reader}
+use Rattle.reader.specs.Manner.{Manner}
 use Rattle.reader.specs.Tokens.{Sight, blind, Seen, Sights}
 use Rattle.reader.specs.Grammar.{Leaf, name_of}
 use Rattle.reader.specs.Reading.{got, fails, Starts, turn, done, again, halts, repeats, NameAt, Reads, ReadsList, ReadsObject}
@@ -57,7 +62,7 @@ abbrev pub bare : List ℕ → List ℕ → Table
 bare text pool = record { text = text; nodes = []; pool = pool }
 
 -- the node of a value, with nothing below it; the pool may have grown
-pub record NodeFor (text before after : List ℕ) (name : Part) (t : Raw) (n : Node) : Type 0 where
+pub record NodeFor (text before after : List ℕ) (name : Option Part) (t : Raw) (n : Node) : Type 0 where
   pub says : Says (bare text after) n t
   pub named : n.name ≡ name
   pub size : n.size ≡ 1
@@ -65,14 +70,18 @@ pub record NodeFor (text before after : List ℕ) (name : Part) (t : Raw) (n : N
   pub grown : after ≡ before ++ more
 
 -- the node of a value that is one token
-pub record LeafNode (text before after : List ℕ) (name : Part) (start : ℕ) (x : Lexical) (n : Node) : Type 0 where
+pub record LeafNode (text before after : List ℕ) (name : Option Part) (start : ℕ) (x : Lexical) (n : Node) : Type 0 where
   pub tree : Raw
   pub leaf : Leaf start x tree
   pub node : NodeFor text before after name tree n
 
-abbrev pub LeafTold : (text before after : List ℕ) → Part → ℕ → Lexical → Result Node Fault → Type 0
-LeafTold text before after name start x (Ok n) = LeafNode text before after name start x n
-LeafTold text before after name start x (Err f) = f ≡ NoMemory
+-- what a value that is one token says of itself: its node, under whatever name
+abbrev pub LeafContent : (text before after : List ℕ) → ℕ → Lexical → Content → Type 0
+LeafContent text before after start x c = (name : Option Part) → LeafNode text before after name start x (headed c start name)
+
+abbrev pub LeafTold : (text before after : List ℕ) → ℕ → Lexical → Result Content Fault → Type 0
+LeafTold text before after start x (Ok c) = LeafContent text before after start x c
+LeafTold text before after start x (Err f) = f ≡ NoMemory
 
 -- the bytes of a part, which the text holds or which were added to the pool
 pub record PartFor (text before after bytes : List ℕ) (p : Part) : Type 0 where
@@ -86,26 +95,30 @@ PartTold text before after bytes (Ok p) = PartFor text before after bytes p
 PartTold text before after bytes (Err f) = f ≡ NoMemory
 
 -- the node of a value that begins with a token
-pub record StartNode (text before after : List ℕ) (name : Part) (start : ℕ) (x : Lexical) (n : Node) : Type 0 where
+pub record StartNode (text before after : List ℕ) (name : Option Part) (start : ℕ) (x : Lexical) (n : Node) : Type 0 where
   pub tree : Raw
   pub starts : Starts start x tree
   pub node : NodeFor text before after name tree n
 
-abbrev pub StartTold : (text before after : List ℕ) → Part → ℕ → Lexical → Result Node Fault → Type 0
-StartTold text before after name start x (Ok n) = StartNode text before after name start x n
-StartTold text before after name start x (Err f) = Blames f (λ g. (g ≡ BadText start) × ((t : Raw) → Starts start x t → ⊥))
+-- what a value says of itself that begins with a token
+abbrev pub StartContent : (text before after : List ℕ) → ℕ → Lexical → Content → Type 0
+StartContent text before after start x c = (name : Option Part) → StartNode text before after name start x (headed c start name)
+
+abbrev pub StartTold : (text before after : List ℕ) → ℕ → Lexical → Result Content Fault → Type 0
+StartTold text before after start x (Ok c) = StartContent text before after start x c
+StartTold text before after start x (Err f) = Blames f (λ g. (g ≡ BadText start) × ((t : Raw) → Starts start x t → ⊥))
 
 -- the first token from `at` on, and the node of the value that it begins
-pub record Begun (language : Language) (text : List ℕ) (at : ℕ) (before after : List ℕ) (name : Part) (l : Lexeme) (n : Node) : Type 0 where
+pub record Begun (language : Language) (text : List ℕ) (at : ℕ) (before after : List ℕ) (name : Option Part) (l : Lexeme) (n : Node) : Type 0 where
   pub looks : Looks language text at l
   pub starts : StartNode text before after name l.start looks.lexed.token n
 
-abbrev pub BeginTold : Manner → List ℕ → ℕ → (before after : List ℕ) → Part → Result (Lexeme × Node) Fault → Type 0
-BeginTold m text at before after name (Ok p) = Begun m.language text at before after name p.0 p.1
-BeginTold m text at before after name (Err f) = Blames f (λ g. (d : ℕ) → Reads (Sights m.language text) m.language m.distinct d at (fails g))
+abbrev pub BeginTold : {W : Type 0} → Language → Reader W → ℕ → Option Part → (before after : List ℕ) → Result (Lexeme × Node) Fault → Type 0
+BeginTold language r at name before after (Ok p) = Begun language r.text.now at before after name p.0 p.1
+BeginTold language r at name before after (Err f) = Blames f (λ g. (d : ℕ) → Reads (Sights language r.text.now) language r.distinct d at (fails g))
 
 -- a value was read from i to j, with d levels left, and its nodes were added
-pub record Added (m : Manner) (text : List ℕ) (d i j : ℕ) (name : Part) (T U : Table) (before after : List Link) : Type 0 where
+pub record Added (m : Manner) (text : List ℕ) (d i j : ℕ) (name : Option Part) (T U : Table) (before after : List Link) : Type 0 where
   pub tree : Raw
   pub reads : Reads (Sights m.language text) m.language m.distinct d i (got j tree)
   pub keeps : Keeps 0 T U
@@ -116,12 +129,28 @@ pub record Added (m : Manner) (text : List ℕ) (d i j : ℕ) (name : Part) (T U
   pub forward : i < j
   pub within : j ≤ length text
 
-abbrev pub Told : Manner → List ℕ → (d i : ℕ) → Part → (T U : Table) (before after : List Link) → Result ℕ Fault → Type 0
+abbrev pub Told : Manner → List ℕ → (d i : ℕ) → Option Part → (T U : Table) (before after : List Link) → Result ℕ Fault → Type 0
 Told m text d i name T U before after (Ok j) = Added m text d i j name T U before after
 Told m text d i name T U before after (Err f) = Blames f (λ g. Reads (Sights m.language text) m.language m.distinct d i (fails g))
 
+-- how a reader of a language reads
+abbrev pub manner_of : {W : Type 0} → Language → Reader W → Manner
+manner_of language r = record { language = language; distinct = r.distinct }
+
+-- the names of the objects that are being read
+abbrev pub links_of : Nodes → List Link
+links_of n = vec_items n.names.links
+
+-- the same of a reader, by the nodes before and after
+abbrev pub ValueTold : {W : Type 0} → Language → Reader W → (d i : ℕ) → Option Part → (before after : Nodes) → Result ℕ Fault → Type 0
+ValueTold language r d i name before after result = Told (manner_of language r) r.text.now d i name (table_of r.text.now before) (table_of r.text.now after) (links_of before) (links_of after) result
+
+-- the same of a literal inside another text, at a depth: names may repeat, and it has no name itself
+abbrev pub LiteralTold : List ℕ → (depth i : ℕ) → (before after : Nodes) → Result ℕ Fault → Type 0
+LiteralTold text depth i before after result = Told (record { language = Graphql; distinct = false }) text (33 - depth) i None (table_of text before) (table_of text after) (links_of before) (links_of after) result
+
 -- a mark was seen from i on; it begins the value whose node is n
-pub record Opened (m : Manner) (text : List ℕ) (i at : ℕ) (mark : Lexical) (t : Raw) (T : Table) (name : Part) (n : Node) : Type 0 where
+pub record Opened (m : Manner) (text : List ℕ) (i at : ℕ) (mark : Lexical) (t : Raw) (T : Table) (name : Option Part) (n : Node) : Type 0 where
   pub start : ℕ
   pub seen : Seen m.language text i start at mark
   pub forward : i < at
@@ -129,6 +158,10 @@ pub record Opened (m : Manner) (text : List ℕ) (i at : ℕ) (mark : Lexical) (
   pub says : Says T n t
   pub named : n.name ≡ name
   pub size : n.size ≡ 1
+
+-- the value whose node is n, and whose mark ends at `at`
+abbrev pub RestTold : {W : Type 0} → Language → Reader W → (d at : ℕ) → Mark → Raw → Node → (before after : Nodes) → Result ℕ Fault → Type 0
+RestTold language r d at mark t n before after result = (i : ℕ) (name : Option Part) → Opened (manner_of language r) r.text.now i at (a_mark mark) t (table_of r.text.now before) name n → ValueTold language r d i name before after result
 
 -- items were read from i to j, and their nodes were added
 pub record ItemsAdded (m : Manner) (text : List ℕ) (d i j : ℕ) (T U : Table) (before after : List Link) : Type 0 where
@@ -140,9 +173,9 @@ pub record ItemsAdded (m : Manner) (text : List ℕ) (d i j : ℕ) (T U : Table)
   pub forward : i < j
   pub within : j ≤ length text
 
-abbrev pub ItemsTold : Manner → List ℕ → (d i : ℕ) → (T U : Table) (before after : List Link) → Result ℕ Fault → Type 0
-ItemsTold m text d i T U before after (Ok j) = ItemsAdded m text d i j T U before after
-ItemsTold m text d i T U before after (Err f) = Blames f (λ g. ReadsList (Sights m.language text) m.language m.distinct d i (fails g))
+abbrev pub ItemsTold : {W : Type 0} → Language → Reader W → (d i : ℕ) → (before after : Nodes) → Result ℕ Fault → Type 0
+ItemsTold language r d i before after (Ok j) = ItemsAdded (manner_of language r) r.text.now d i j (table_of r.text.now before) (table_of r.text.now after) (links_of before) (links_of after)
+ItemsTold language r d i before after (Err f) = Blames f (λ g. ReadsList (Sights language r.text.now) language r.distinct d i (fails g))
 
 -- the links from base on hold the names ns, where repeated names are refused
 abbrev pub NamesHeld : Bool → (text pool : List ℕ) → List Link → ℕ → List Name → Type 0
@@ -159,15 +192,19 @@ pub record MembersAdded (m : Manner) (text : List ℕ) (d i j : ℕ) (T U : Tabl
   pub forward : i < j
   pub within : j ≤ length text
 
-abbrev pub MembersTold : Manner → List ℕ → (d i : ℕ) → (T U : Table) (base : ℕ) (before after : List Link) → Result ℕ Fault → Type 0
-MembersTold m text d i T U base before after (Ok j) = MembersAdded m text d i j T U base before after
-MembersTold m text d i T U base before after (Err f) = Blames f (λ g. ReadsObject (Sights m.language text) m.language m.distinct d i (fails g))
+abbrev pub MembersTold : {W : Type 0} → Language → Reader W → (d i base : ℕ) → (before after : Nodes) → Result ℕ Fault → Type 0
+MembersTold language r d i base before after (Ok j) = MembersAdded (manner_of language r) r.text.now d i j (table_of r.text.now before) (table_of r.text.now after) base (links_of before) (links_of after)
+MembersTold language r d i base before after (Err f) = Blames f (λ g. ReadsObject (Sights language r.text.now) language r.distinct d i (fails g))
 
 -- a name that is new among those before it, or not
-abbrev pub NewTold : Bool → (text pool : List ℕ) → ℕ → (before after : List Link) → Part → Result Bool Fault → Type 0
+abbrev pub NewTold : Bool → (text pool : List ℕ) → ℕ → (before after : List Link) → Part → Result Bool AllocError → Type 0
 NewTold distinct text pool base before after name (Ok true) = (ns : List Name) → base ≤ length before → PartFits text pool name → NamesHeld distinct text pool before base ns → (repeats distinct ns (bytes_of text pool name) ≡ false) × NamesHeld distinct text pool after base (ns ++ bytes_of text pool name ∷ []) × (take base after ≡ take base before) × (base ≤ length after)
 NewTold distinct text pool base before after name (Ok false) = (ns : List Name) → PartFits text pool name → NamesHeld distinct text pool before base ns → repeats distinct ns (bytes_of text pool name) ≡ true
-NewTold distinct text pool base before after name (Err f) = f ≡ NoMemory
+NewTold distinct text pool base before after name (Err e) = Unit {0}
+
+-- the same of a reader, by the names before and after
+abbrev pub RegisterTold : {W : Type 0} → Reader W → ℕ → List ℕ → Part → (before after : Names) → Result Bool AllocError → Type 0
+RegisterTold r base pool name before after result = NewTold r.distinct r.text.now pool base (vec_items before.links) (vec_items after.links) name result
 
 -- the part of the text or of the pool that is a name, or that the token is none
 abbrev pub NamePartTold : Language → (text before after : List ℕ) → ℕ → Lexical → Result Part Fault → Type 0
@@ -189,6 +226,10 @@ abbrev pub NameTold : Manner → List ℕ → ℕ → List Name → ℕ → (poo
 NameTold m text i ns base pool pool' before after (Ok p) = NameRead m text i p.1 ns base pool pool' before after p.0
 NameTold m text i ns base pool pool' before after (Err f) = Blames f (λ g. NameAt (Sights m.language text) m.language m.distinct ns i (fails g))
 
+-- the member's name at i, whatever names the object has before it
+abbrev pub MemberTold : {W : Type 0} → Language → Reader W → (i base : ℕ) → (before after : Nodes) → Result (Part × ℕ) Fault → Type 0
+MemberTold language r i base before after result = (ns : List Name) → NamesHeld r.distinct r.text.now (vec_items before.pool) (links_of before) base ns → NameTold (manner_of language r) r.text.now i ns base (vec_items before.pool) (vec_items after.pool) (links_of before) (links_of after) result
+
 -- how it goes on after a value that ends at `at`, where v is seen
 abbrev pub StepIs : Language → Mark → ℕ → Sight → List ℕ → ControlFlow ℕ ℕ → Type 0
 StepIs language close at v text (Continue k) = (turn language close at v ≡ again k) × (at ≤ k) × (k ≤ length text)
@@ -197,7 +238,3 @@ StepIs language close at v text (Break e) = (turn language close at v ≡ done e
 abbrev pub TurnTold : Language → List ℕ → Mark → ℕ → Result (ControlFlow ℕ ℕ) Fault → Type 0
 TurnTold language text close at (Ok s) = (v : Sight) × Sights language text at v × StepIs language close at v text s
 TurnTold language text close at (Err f) = (v : Sight) × Sights language text at v × (turn language close at v ≡ halts f)
-
--- how a literal inside another text is read: names may repeat
-abbrev pub literal_manner : Manner
-literal_manner = record { language = Graphql; distinct = false }

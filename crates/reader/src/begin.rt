@@ -1,4 +1,4 @@
-// The nodes that tokens begin.
+// The values that tokens begin.
 ghost use Rattle.std.specs.Prelude.{◌≡◌, ℕ, ◌+◌, ◌-◌, ◌<◌, ◌≤◌, List, length};
 ghost use Rattle.std.proofs.Math.Utf8.{encodes};
 ghost use Rattle.text.specs.declared.fault.Fault.TheVariants.{NoMemory};
@@ -6,73 +6,65 @@ ghost use Rattle.text.specs.declared.number.NumberKind.TheVariants.{Whole, Decim
 ghost use Rattle.text.specs.Cuts.{part as cut_out};
 ghost use Rattle.text.specs.TokenGrammar.{a_name, a_number, Numeral};
 ghost use Rattle.text.specs.TokenFound.{Writes};
-ghost use Rattle.reader.specs.Told.{LookTold, LeafNode, LeafTold, PartTold, Lexed, StartTold, BeginTold};
+ghost use Rattle.reader.specs.Told.{LookTold, LeafContent, LeafTold, PartTold, Lexed, StartTold, BeginTold};
 
-use crate::manner::Reader;
+use crate::reading::Reader;
 use names::part::Part;
-use source::nodes::Node;
-use source::raw::Kind;
+use source::nodes::{Content, Node};
+use source::value::Written;
 use text::fault::Fault;
 use text::language::Language;
+use text::number::NumberKind;
 use text::token::{Lexeme, Token};
 use text::{decimal, graphql, json, string};
 
-// The node of a name from `start` to `end`: null, a boolean or an enum value.
-fn word_node(word: &[u8], start: usize, end: usize, name: Part) -> Node
-    ensures { (text pool : List ℕ) → start ≤ end → end ≤ length text → word.now ≡ cut_out text start end → LeafNode text pool pool name start (a_name word.now) result }
+// A name from `start` to `end`: null, a boolean or an enum value.
+// It compares, since the facts of a match on byte strings have no names that a proof could cite.
+// Inlined, as `decimal_content` is: LLVM would leave them apart where both languages are read.
+#[inline(always)]
+fn word_content(word: &[u8], start: usize, end: usize) -> Content
+    ensures { (text pool : List ℕ) → start ≤ end → end ≤ length text → word.now ≡ cut_out text start end → LeafContent text pool pool start (a_name word.now) result }
 {
     if word == b"null".as_slice() {
-        return Node::new(Kind::Null, start, name);
-    }
-    if word == b"true".as_slice() {
-        return Node {
-            flag: true,
-            ..Node::new(Kind::Boolean, start, name)
-        };
-    }
-    if word == b"false".as_slice() {
-        return Node::new(Kind::Boolean, start, name);
-    }
-    Node {
-        text: Part::Text { start, end },
-        ..Node::new(Kind::Enum, start, name)
+        Content::Null
+    } else if word == b"true".as_slice() {
+        Content::Boolean(true)
+    } else if word == b"false".as_slice() {
+        Content::Boolean(false)
+    } else {
+        Content::Enum(Part::Text { start, end })
     }
 }
 
-// The node of a whole number from `start` to `end`, whose normal form ends where it ends.
-fn whole_node(spelled: &[u8], start: usize, end: usize, name: Part) -> Node
-    ensures { (text pool : List ℕ) → start ≤ end → end ≤ length text → spelled.now ≡ cut_out text start end → LeafNode text pool pool name start (a_number Whole spelled.now) result }
+// A whole number that ends at `end`, where its normal form ends too.
+fn whole_content(spelled: &[u8], end: usize) -> Content
+    ensures { (text pool : List ℕ) (start : ℕ) → start ≤ end → end ≤ length text → spelled.now ≡ cut_out text start end → LeafContent text pool pool start (a_number Whole spelled.now) result }
 {
-    let from = end.saturating_sub(decimal::whole(spelled).len());
-    Node {
-        text: Part::Text { start: from, end },
-        ..Node::new(Kind::Whole, start, name)
-    }
+    let start = end.saturating_sub(decimal::whole(spelled).len());
+    Content::Whole(Part::Text { start, end })
 }
 
-// The node of a decimal, whose digits in normal form are added to the pool.
-fn decimal_node(spelled: &[u8], start: usize, name: Part, pool: &mut Vec<u8>) -> Result<Node, Fault>
+// A decimal, whose digits in normal form are added to the pool.
+#[inline(always)]
+fn decimal_content(spelled: &[u8], pool: &mut Vec<u8>) -> Result<Content, Fault>
     requires { Numeral spelled.now Decimal }
-    ensures { (text : List ℕ) → LeafTold text pool.old.items pool.new.items name start (a_number Decimal spelled.now) result }
+    ensures { (text : List ℕ) (start : ℕ) → LeafTold text pool.old.items pool.new.items start (a_number Decimal spelled.now) result }
 {
-    let from = pool.len();
+    let start = pool.len();
     let scale = decimal::normal(spelled, pool)?;
-    Ok(Node {
-        scale,
-        text: Part::Pool {
-            start: from,
-            end: pool.len(),
-        },
-        ..Node::new(Kind::Decimal, start, name)
-    })
+    let digits = Part::Pool {
+        start,
+        end: pool.len(),
+    };
+    Ok(Content::Decimal { scale, digits })
 }
 
-impl<'a> Reader<'a> {
-    // The first token at or after `at`.
+impl<'a, W: Written> Reader<'a, W> {
+    // The first token at or after `at`. The two grammars differ in all that they read, not in a constant.
     pub(crate) fn token(self, at: usize) -> Result<Lexeme<'a>, Fault>
-        ensures { LookTold self.entry.manner.language self.entry.text.now at result }
+        ensures { LookTold W.LANGUAGE self.entry.text.now at result }
     {
-        match self.manner.language {
+        match W::LANGUAGE {
             Language::Json => json::token(self.text, at),
             Language::Graphql => graphql::token(self.text, at),
         }
@@ -88,7 +80,7 @@ impl<'a> Reader<'a> {
         pool: &mut Vec<u8>,
     ) -> Result<Part, Fault>
         requires { lexeme.start + 1 < lexeme.end }
-        ensures { (text cs : List ℕ) → raw.now ≡ cut_out text (lexeme.entry.start + 1) (lexeme.entry.end - 1) → Writes self.entry.manner.language text (lexeme.entry.start + 1) lexeme.entry.end plain cs → PartTold text pool.old.items pool.new.items (encodes cs) result }
+        ensures { (cs : List ℕ) → raw.now ≡ cut_out self.entry.text.now (lexeme.entry.start + 1) (lexeme.entry.end - 1) → Writes W.LANGUAGE self.entry.text.now (lexeme.entry.start + 1) lexeme.entry.end plain cs → PartTold self.entry.text.now pool.old.items pool.new.items (encodes cs) result }
     {
         if plain {
             return Ok(Part::Text {
@@ -97,32 +89,32 @@ impl<'a> Reader<'a> {
             });
         }
         let from = pool.len();
-        string::decode(raw, self.manner.language, pool)?;
+        string::decode(raw, W::LANGUAGE, pool)?;
         Ok(Part::Pool {
             start: from,
             end: pool.len(),
         })
     }
 
-    // The node of a value that begins with the token; nothing is below it yet.
-    fn node_of(self, lexeme: Lexeme<'_>, name: Part, pool: &mut Vec<u8>) -> Result<Node, Fault>
-        requires { (text : List ℕ) × Lexed self.manner.language text lexeme }
-        ensures { (text : List ℕ) (k : Lexed self.entry.manner.language text lexeme.entry) → StartTold text pool.old.items pool.new.items name lexeme.entry.start k.token result }
+    // What the value that begins with the token says of itself.
+    fn content_of(self, lexeme: Lexeme<'_>, pool: &mut Vec<u8>) -> Result<Content, Fault>
+        requires { Lexed W.LANGUAGE self.text.now lexeme }
+        ensures { (k : Lexed W.LANGUAGE self.entry.text.now lexeme.entry) → StartTold self.entry.text.now pool.old.items pool.new.items lexeme.entry.start k.token result }
     {
         let Lexeme { token, start, end } = lexeme;
         match token {
-            Token::OpenBracket => Ok(Node::new(Kind::List, start, name)),
-            Token::OpenBrace => Ok(Node::new(Kind::Object, start, name)),
-            Token::Dollar => Ok(Node::new(Kind::Variable, start, name)),
-            Token::Name(word) => Ok(word_node(word, start, end, name)),
-            Token::Whole(spelled) => Ok(whole_node(spelled, start, end, name)),
-            Token::Decimal(spelled) => decimal_node(spelled, start, name, pool),
+            Token::OpenBracket => Ok(Content::List),
+            Token::OpenBrace => Ok(Content::Object),
+            // Its name is read once the depth is judged: till then the empty part after the sign.
+            Token::Dollar => Ok(Content::Variable(Part::Text { start: end, end })),
+            Token::Name(word) => Ok(word_content(word, start, end)),
+            Token::Number(spelled, kind) => match kind {
+                NumberKind::Whole => Ok(whole_content(spelled, end)),
+                NumberKind::Decimal => decimal_content(spelled, pool),
+            },
             Token::Text { raw, plain } => {
                 let text = self.string_part(lexeme, raw, plain, pool)?;
-                Ok(Node {
-                    text,
-                    ..Node::new(Kind::String, start, name)
-                })
+                Ok(Content::String(text))
             }
             _ => Err(Fault::BadText(start)),
         }
@@ -132,13 +124,13 @@ impl<'a> Reader<'a> {
     pub(crate) fn begin(
         self,
         at: usize,
-        name: Part,
+        name: Option<Part>,
         pool: &mut Vec<u8>,
     ) -> Result<(Lexeme<'a>, Node), Fault>
-        ensures { BeginTold self.entry.manner self.entry.text.now at pool.old.items pool.new.items name result }
+        ensures { BeginTold W.LANGUAGE self.entry at name pool.old.items pool.new.items result }
     {
         let lexeme = self.token(at)?;
-        let node = self.node_of(lexeme, name, pool)?;
-        Ok((lexeme, node))
+        let content = self.content_of(lexeme, pool)?;
+        Ok((lexeme, Node::new(content, lexeme.start, name)))
     }
 }

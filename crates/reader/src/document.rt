@@ -3,8 +3,7 @@ ghost use Rattle.std.specs.Prelude.{◌≡◌};
 ghost use Rattle.source.specs.Table.{tree_table};
 ghost use Rattle.reader.specs.Document.{Document, WholeTold, OneReading, table_in};
 
-use crate::manner::{LEVELS, Manner, Reader};
-use names::part::Part;
+use crate::reading::{LEVELS, Reader};
 use source::limits::LONGEST_TEXT;
 use source::nodes::Nodes;
 use source::tree::Tree;
@@ -16,16 +15,16 @@ use text::token::Token;
 
 // A text in W that is one value, read.
 #[derive(Drop)]
-pub struct Whole<'a, W> {
+pub struct Parsed<'a, W> {
     tree: Tree<'a>,
-    written: PhantomData<W>,
+    language: PhantomData<W>,
 }
 
-pub type JsonText<'a> = Whole<'a, Json>;
+pub type JsonText<'a> = Parsed<'a, Json>;
 
-pub type LiteralText<'a> = Whole<'a, Graphql>;
+pub type LiteralText<'a> = Parsed<'a, Graphql>;
 
-impl<'a, W> Whole<'a, W> {
+impl<'a, W> Parsed<'a, W> {
     // The value of the whole text.
     pub fn value(&self) -> Value<'_, 'a, W>
         ensures tree { result.tree.now ≡ self.now.tree }
@@ -35,39 +34,40 @@ impl<'a, W> Whole<'a, W> {
     }
 }
 
-impl<'a> Reader<'a> {
+impl<'a, W: Written> Reader<'a, W> {
     // The one value that is the whole text.
     fn whole(self, heap: Global) -> Result<Tree<'a>, Fault>
-        ensures { WholeTold self.entry.manner self.entry.text.now result }
+        ensures { WholeTold W.LANGUAGE self.entry result }
     {
         if self.text.len() > LONGEST_TEXT {
             return Err(Fault::BadText(0));
         }
         let mut nodes = Nodes::new(heap);
-        let end = self.value(0, LEVELS, Part::EMPTY, &mut nodes)?;
+        let end = self.value(0, LEVELS, None, &mut nodes)?;
         let after = self.token(end)?;
-        match after.token {
-            Token::End => Ok(Tree {
-                text: self.text,
-                nodes,
-            }),
-            _ => Err(Fault::BadText(after.start)),
+        if after.token != Token::End {
+            return Err(Fault::BadText(after.start));
         }
+        Ok(Tree {
+            text: self.text,
+            nodes,
+        })
     }
 }
 
 // The one value that is the whole text, in W.
-pub fn read<W: Written>(heap: Global, text: &[u8]) -> Result<Whole<'_, W>, Fault>
+pub fn read<W: Written>(heap: Global, text: &[u8]) -> Result<Parsed<'_, W>, Fault>
     ensures { Document W.LANGUAGE text.now (table_in (λ w. tree_table w.tree) result) }
 {
-    let manner = Manner {
-        language: W::LANGUAGE,
+    let reader: Reader<'_, W> = Reader {
+        text,
         distinct: true,
+        language: PhantomData,
     };
-    let tree = Reader { text, manner }.whole(heap)?;
-    Ok(Whole {
+    let tree = reader.whole(heap)?;
+    Ok(Parsed {
         tree,
-        written: PhantomData,
+        language: PhantomData,
     })
 }
 

@@ -4,6 +4,5 @@
 mod begin;
 pub mod document;
 pub mod literal;
-pub mod manner;
-mod marks;
+mod reading;
 mod value;

@@ -1,30 +1,28 @@
 // GraphQL literals inside other texts.
-ghost use Rattle.std.specs.Prelude.{◌≡◌, ◌-◌, ◌<◌, ◌≤◌, length, IfOk, Err};
+ghost use Rattle.std.specs.Prelude.{◌≡◌, ◌<◌, ◌≤◌, length, IfOk, Err};
 ghost use Rattle.text.specs.declared.fault.Fault.TheVariants.{BadText};
-ghost use Rattle.source.specs.Nodes.{nowhere};
-ghost use Rattle.source.specs.Table.{table_of};
-ghost use Rattle.reader.specs.Told.{Told, literal_manner};
+ghost use Rattle.reader.specs.Told.{LiteralTold};
 
-use crate::manner::{LEVELS, Manner, Reader};
-use names::part::Part;
+use crate::reading::{LEVELS, Reader};
 use source::nodes::Nodes;
+use source::value::Graphql;
 pub use source::value::Literal;
+use std::marker::PhantomData;
 use text::fault::Fault;
-use text::language::Language;
 
 // Adds the nodes of the literal at `at` of a text, a value at that depth, in which names may repeat: where it ends.
 pub fn literal_at(text: &[u8], at: usize, depth: usize, nodes: &mut Nodes) -> Result<usize, Fault>
-    ensures told { at ≤ length text.now → Told literal_manner text.now (33 - depth) at nowhere (table_of text.now nodes.old) (table_of text.now nodes.new) nodes.old.names.links.items nodes.new.names.links.items result }
+    ensures told { at ≤ length text.now → LiteralTold text.now depth at nodes.old nodes.new result }
     ensures past { length text.now < at → result ≡ Err (BadText (length text.now)) }
     ensures forward { IfOk result (λ end. (at < end) × (end ≤ length text.now)) }
 {
     if at > text.len() {
         return Err(Fault::BadText(text.len()));
     }
-    let manner = Manner {
-        language: Language::Graphql,
+    let reader: Reader<'_, Graphql> = Reader {
+        text,
         distinct: false,
+        language: PhantomData,
     };
-    let levels = LEVELS.saturating_sub(depth);
-    Reader { text, manner }.value(at, levels, Part::EMPTY, nodes)
+    reader.value(at, LEVELS.saturating_sub(depth), None, nodes)
 }

@@ -1,47 +1,48 @@
 // The readers of values, lists and objects, which read one another's values.
-ghost use Rattle.std.specs.Prelude.{◌≡◌, ℕ, ◌<◌, ◌≤◌, List as Listing, [], length};
-ghost use Rattle.model.specs.Values.{Name, Raw, list as list_of, object as object_of, variable as variable_of, nil, end as no_members};
-ghost use Rattle.text.specs.TokenGrammar.{a_mark, open_bracket, open_brace, dollar};
-ghost use Rattle.source.specs.Table.{table_of};
-ghost use Rattle.reader.specs.Closings.{mark_of};
-ghost use Rattle.reader.specs.Told.{Lexed, NamePartTold, Told, Opened, ItemsTold, MembersTold, NamesHeld, NameTold, NewTold, TurnTold};
+ghost use Rattle.std.specs.Prelude.{◌≡◌, ℕ, ◌<◌, ◌≤◌, [], length};
+ghost use Rattle.model.specs.Values.{list as list_of, object as object_of, variable as variable_of, nil, end as no_members};
+ghost use Rattle.text.specs.TokenFound.{v_mark, view_of};
+ghost use Rattle.text.specs.TokenGrammar.{Mark, open_bracket, open_brace, dollar};
+ghost use Rattle.reader.specs.Told.{Lexed, NamePartTold, ValueTold, RestTold, ItemsTold, MembersTold, MemberTold, RegisterTold, TurnTold};
 
-use crate::manner::Reader;
-use crate::marks::Mark;
+use crate::reading::Reader;
 use names::names::Names;
 use names::part::{Holder, Part};
 use source::limits::LONGEST_NAME;
-use source::nodes::{Node, Nodes};
-use source::raw::Kind;
+use source::nodes::{Content, Node, Nodes};
+use source::value::Written;
+use std::alloc::AllocError;
 use std::ops::ControlFlow;
 use text::fault::Fault;
 use text::language::Language;
 use text::token::{Lexeme, Token};
 
-impl Reader<'_> {
+// Places stand in these contracts, since where a value begins and ends is what they say: so each that begins at a place
+// asks that the place is one of the text. Lists and objects have functions of their own: only members have names, and
+// only objects hold names against each other.
+impl<W: Written> Reader<'_, W> {
     // How it goes on after a value that ends at `at`.
-    fn step(self, at: usize, closing: Mark) -> Result<ControlFlow<usize, usize>, Fault>
+    fn step(self, at: usize, closing: Token<'_>) -> Result<ControlFlow<usize, usize>, Fault>
         requires { at ≤ length self.text.now }
-        ensures { TurnTold self.entry.manner.language self.entry.text.now (mark_of closing) at result }
+        ensures { (m : Mark) → view_of closing.entry ≡ v_mark m → TurnTold W.LANGUAGE self.entry.text.now m at result }
     {
         let lexeme = self.token(at)?;
-        if closing.is(lexeme.token) {
+        if lexeme.token == closing {
             return Ok(ControlFlow::Break(lexeme.end));
         }
-        let comma = Mark::Comma.is(lexeme.token);
-        match self.manner.language {
+        match W::LANGUAGE {
             Language::Graphql => Ok(ControlFlow::Continue(at)),
-            Language::Json if comma => Ok(ControlFlow::Continue(lexeme.end)),
+            Language::Json if lexeme.token == Token::Comma => Ok(ControlFlow::Continue(lexeme.end)),
             Language::Json => Err(Fault::BadText(lexeme.start)),
         }
     }
 
     // The part of the text or the pool that is a member's name, if the token is one.
     fn name_part(self, lexeme: Lexeme<'_>, pool: &mut Vec<u8>) -> Result<Part, Fault>
-        requires { (text : Listing ℕ) × Lexed self.manner.language text lexeme }
-        ensures { (text : Listing ℕ) (k : Lexed self.entry.manner.language text lexeme.entry) → NamePartTold self.entry.manner.language text pool.old.items pool.new.items lexeme.entry.start k.token result }
+        requires { Lexed W.LANGUAGE self.text.now lexeme }
+        ensures { (k : Lexed W.LANGUAGE self.entry.text.now lexeme.entry) → NamePartTold W.LANGUAGE self.entry.text.now pool.old.items pool.new.items lexeme.entry.start k.token result }
     {
-        match (self.manner.language, lexeme.token) {
+        match (W::LANGUAGE, lexeme.token) {
             (Language::Json, Token::Text { raw, plain }) => self.string_part(
                 lexeme, raw, plain, pool,
             ),
@@ -60,21 +61,17 @@ impl Reader<'_> {
         base: usize,
         pool: &[u8],
         name: Part,
-    ) -> Result<bool, Fault>
-        ensures { NewTold self.entry.manner.distinct self.entry.text.now pool.now base names.old.links.items names.new.links.items name result }
+    ) -> Result<bool, AllocError>
+        ensures { RegisterTold self.entry base pool.now name names.old names.new result }
     {
-        if self.manner.distinct {
-            Ok(names.add(
-                base,
-                Holder {
-                    text: self.text,
-                    pool,
-                },
-                name,
-            )?)
-        } else {
-            Ok(true)
+        if !self.distinct {
+            return Ok(true);
         }
+        let holder = Holder {
+            text: self.text,
+            pool,
+        };
+        names.add(base, holder, name)
     }
 
     // The name of a member, and where the colon after it ends. The names before it in the object are those from `base` on.
@@ -82,7 +79,7 @@ impl Reader<'_> {
         requires within { at ≤ length self.text.now }
         requires base { base ≤ length nodes.old.names.links.items }
         ensures list { nodes.new.list ≡ nodes.old.list }
-        ensures told { (ns : Listing Name) → NamesHeld self.entry.manner.distinct self.entry.text.now nodes.old.pool.items nodes.old.names.links.items base ns → NameTold self.entry.manner self.entry.text.now at ns base nodes.old.pool.items nodes.new.pool.items nodes.old.names.links.items nodes.new.names.links.items result }
+        ensures told { MemberTold W.LANGUAGE self.entry at base nodes.old nodes.new result }
     {
         let lexeme = self.token(at)?;
         let name = self.name_part(lexeme, &mut nodes.pool)?;
@@ -94,7 +91,7 @@ impl Reader<'_> {
             return Err(Fault::RepeatedName(lexeme.start));
         }
         let colon = self.token(lexeme.end)?;
-        if !Mark::Colon.is(colon.token) {
+        if colon.token != Token::Colon {
             return Err(Fault::BadText(colon.start));
         }
         Ok((name, colon.end))
@@ -103,17 +100,17 @@ impl Reader<'_> {
     // The variable whose dollar sign ends at `at`, from its node on.
     fn variable(self, at: usize, node: Node, nodes: &mut Nodes) -> Result<usize, Fault>
         requires { at ≤ length self.text.now }
-        ensures { (d i : ℕ) (name : Part) → 0 < d → Opened self.entry.manner self.entry.text.now i at (a_mark dollar) (variable_of node.place []) (table_of self.entry.text.now nodes.old) name node → Told self.entry.manner self.entry.text.now d i name (table_of self.entry.text.now nodes.old) (table_of self.entry.text.now nodes.new) nodes.old.names.links.items nodes.new.names.links.items result }
+        ensures { (d : ℕ) → 0 < d → RestTold W.LANGUAGE self.entry d at dollar (variable_of node.place []) node nodes.old nodes.new result }
     {
         let lexeme = self.token(at)?;
         let Token::Name(_) = lexeme.token else {
             return Err(Fault::BadText(lexeme.start));
         };
         nodes.add(Node {
-            text: Part::Text {
+            content: Content::Variable(Part::Text {
                 start: lexeme.start,
                 end: lexeme.end,
-            },
+            }),
             ..node
         })?;
         Ok(lexeme.end)
@@ -125,20 +122,20 @@ impl Reader<'_> {
         self,
         at: usize,
         levels: usize,
-        name: Part,
+        name: Option<Part>,
         nodes: &mut Nodes,
     ) -> Result<usize, Fault>
         requires { at ≤ length self.text.now }
-        ensures { Told self.entry.manner self.entry.text.now levels at name (table_of self.entry.text.now nodes.old) (table_of self.entry.text.now nodes.new) nodes.old.names.links.items nodes.new.names.links.items result }
+        ensures { ValueTold W.LANGUAGE self.entry levels at name nodes.old nodes.new result }
     {
         let (lexeme, node) = self.begin(at, name, &mut nodes.pool)?;
         if levels == 0 {
             return Err(Fault::TooDeep(lexeme.start));
         }
-        match node.kind {
-            Kind::List => self.list(lexeme.end, levels, node, nodes),
-            Kind::Object => self.object(lexeme.end, levels, node, nodes),
-            Kind::Variable => self.variable(lexeme.end, node, nodes),
+        match node.content {
+            Content::List => self.list(lexeme.end, levels, node, nodes),
+            Content::Object => self.object(lexeme.end, levels, node, nodes),
+            Content::Variable(_) => self.variable(lexeme.end, node, nodes),
             _ => {
                 nodes.add(node)?;
                 Ok(lexeme.end)
@@ -151,7 +148,7 @@ impl Reader<'_> {
     fn list(self, at: usize, levels: usize, node: Node, nodes: &mut Nodes) -> Result<usize, Fault>
         requires room { 0 < levels }
         requires within { at ≤ length self.text.now }
-        ensures { (i : ℕ) (name : Part) → Opened self.entry.manner self.entry.text.now i at (a_mark open_bracket) (list_of node.place nil) (table_of self.entry.text.now nodes.old) name node → Told self.entry.manner self.entry.text.now levels i name (table_of self.entry.text.now nodes.old) (table_of self.entry.text.now nodes.new) nodes.old.names.links.items nodes.new.names.links.items result }
+        ensures { RestTold W.LANGUAGE self.entry levels at open_bracket (list_of node.place nil) node nodes.old nodes.new result }
     {
         let index = nodes.list.len();
         nodes.add(node)?;
@@ -164,16 +161,17 @@ impl Reader<'_> {
     #[cycle(items_list_members_object_value)]
     fn items(self, at: usize, levels: usize, nodes: &mut Nodes) -> Result<usize, Fault>
         requires { at ≤ length self.text.now }
-        ensures { ItemsTold self.entry.manner self.entry.text.now levels at (table_of self.entry.text.now nodes.old) (table_of self.entry.text.now nodes.new) nodes.old.names.links.items nodes.new.names.links.items result }
+        ensures { ItemsTold W.LANGUAGE self.entry levels at nodes.old nodes.new result }
     {
         let first = self.token(at)?;
-        if Mark::CloseBracket.is(first.token) {
+        if first.token == Token::CloseBracket {
             return Ok(first.end);
         }
         let mut next = at;
+        // A turn moves by what was read, and may fail or end.
         loop {
-            let end = self.value(next, levels, Part::EMPTY, nodes)?;
-            match self.step(end, Mark::CloseBracket)? {
+            let end = self.value(next, levels, None, nodes)?;
+            match self.step(end, Token::CloseBracket)? {
                 ControlFlow::Continue(at) => next = at,
                 ControlFlow::Break(end) => return Ok(end),
             }
@@ -185,7 +183,7 @@ impl Reader<'_> {
     fn object(self, at: usize, levels: usize, node: Node, nodes: &mut Nodes) -> Result<usize, Fault>
         requires room { 0 < levels }
         requires within { at ≤ length self.text.now }
-        ensures { (i : ℕ) (name : Part) → Opened self.entry.manner self.entry.text.now i at (a_mark open_brace) (object_of node.place no_members) (table_of self.entry.text.now nodes.old) name node → Told self.entry.manner self.entry.text.now levels i name (table_of self.entry.text.now nodes.old) (table_of self.entry.text.now nodes.new) nodes.old.names.links.items nodes.new.names.links.items result }
+        ensures { RestTold W.LANGUAGE self.entry levels at open_brace (object_of node.place no_members) node nodes.old nodes.new result }
     {
         let index = nodes.list.len();
         let base = nodes.names.len();
@@ -207,17 +205,18 @@ impl Reader<'_> {
     ) -> Result<usize, Fault>
         requires within { at ≤ length self.text.now }
         requires none { base ≡ length nodes.old.names.links.items }
-        ensures { MembersTold self.entry.manner self.entry.text.now levels at (table_of self.entry.text.now nodes.old) (table_of self.entry.text.now nodes.new) base nodes.old.names.links.items nodes.new.names.links.items result }
+        ensures { MembersTold W.LANGUAGE self.entry levels at base nodes.old nodes.new result }
     {
         let first = self.token(at)?;
-        if Mark::CloseBrace.is(first.token) {
+        if first.token == Token::CloseBrace {
             return Ok(first.end);
         }
         let mut next = at;
+        // A turn moves by what was read, and may fail or end.
         loop {
             let (name, onward) = self.member_name(next, base, nodes)?;
-            let end = self.value(onward, levels, name, nodes)?;
-            match self.step(end, Mark::CloseBrace)? {
+            let end = self.value(onward, levels, Some(name), nodes)?;
+            match self.step(end, Token::CloseBrace)? {
                 ControlFlow::Continue(at) => next = at,
                 ControlFlow::Break(end) => return Ok(end),
             }

@@ -3,4 +3,5 @@
 
 pub mod body;
 pub mod kind;
+pub mod limits;
 pub mod working;

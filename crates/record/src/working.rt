@@ -8,10 +8,21 @@ use crate::kind::{HEADER, RecordKind};
 use text::decimal::Scale;
 
 // Working bytes, of which the first `used` are written. They are cleared on every way out.
+// They are lent and not a vector, so that a load allocates nothing.
 pub struct Working<'a> {
     pub bytes: &'a mut [u8],
     pub used: usize,
     ghost inside: { used ≤ length bytes.now },
+}
+
+impl Drop for Working<'_> {
+    fn drop(self)
+        ensures { self.exit.0.now ≡ replicate (length self.entry.bytes.now) 0 }
+    {
+        // Each field is named, since `..` would move `bytes` out of a value that has a `drop`.
+        let Working { bytes, used: _ } = self;
+        bytes.fill(0);
+    }
 }
 
 // How many bytes the record of a member's name has, if there is one.
@@ -19,15 +30,6 @@ fn name_size(name: Option<&[u8]>) -> usize
     ensures { result ≡ min (length (named name.entry)) (2 ^ 64 - 1) }
 {
     name.map_or(0, |name| name.len().saturating_add(HEADER))
-}
-
-impl Drop for Working<'_> {
-    fn drop(self)
-        ensures { self.exit.0.now ≡ replicate (length self.entry.bytes.now) 0 }
-    {
-        let Working { bytes, used: _ } = self;
-        bytes.fill(0);
-    }
 }
 
 impl<'a> Working<'a> {
@@ -66,6 +68,7 @@ impl<'a> Working<'a> {
         requires short { count < 2 ^ 32 }
         ensures { Wrote self.old self.new (header count (number_of kind)) }
     {
+        // `as` loses nothing: the count is below 2^32.
         let [a, b, c, d] = (count as u32).to_le_bytes();
         self.put(&[a, b, c, d, u8::from(kind), 0]);
     }
@@ -107,6 +110,7 @@ impl<'a> Working<'a> {
         }
     }
 
+    // The bound is asked here and not in the type, which would ask it of all who make working bytes.
     // Opens a record, with the name before it if there is one, and tells where it starts; where there is no room for all of it, nothing is written.
     pub fn begin(&mut self, name: Option<&[u8]>, body: Body<'_>) -> Option<usize>
         requires { size self.old < 2 ^ 32 }

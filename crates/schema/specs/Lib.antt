@@ -1,2 +1,3 @@
+pub mod Laws
 pub mod Reading
 pub mod Words

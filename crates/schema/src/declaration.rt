@@ -36,8 +36,10 @@ fn default_value(tokens: &mut Tokens<'_>, nodes: &mut Nodes) -> Result<Option<us
     ensures onward { IfOk result (λ _. Onward 0 tokens.old tokens.new) }
     ensures default { IfOk result (λ default. IfSome default (λ root. root ≡ vec_len nodes.old.list)) }
 {
-    let equals = tokens.eat(|token| matches!(token, Token::Equals))?;
-    if equals.is_none() {
+    if tokens
+        .eat(|token| matches!(token, Token::Equals))?
+        .is_none()
+    {
         return Ok(None);
     }
     let root = nodes.list.len();

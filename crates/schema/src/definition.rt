@@ -45,12 +45,12 @@ impl<'a> Schema<'a> {
         Table::new(self.scalars.as_slice()).find(name)
     }
 
-    // The name of a declared scalar; of none the empty name.
+    // The name of a declared scalar; of none the empty name, which is what callers would take in place of a None.
     pub fn scalar_name(&self, index: usize) -> &[u8] {
-        match self.scalars.get(index) {
-            Some(scalar) => scalar.name,
-            None => b"",
-        }
+        self.scalars
+            .get(index)
+            .map(|scalar| scalar.name)
+            .unwrap_or_default()
     }
 }
 

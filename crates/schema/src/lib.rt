@@ -1,6 +1,7 @@
 // Schemas and operations, and the built-in scalars.
 #![tactic(auto)]
 
+pub mod cursor;
 pub mod declaration;
 pub mod definition;
 pub mod layer;

@@ -26,6 +26,7 @@ pub enum OperationKind {
 
 #[derive(Clone, Copy)]
 pub struct Variable<'a> {
+    // Beside its place and not a `Name` with it, as clauses and callers have it.
     pub name: &'a [u8],
     // The offset of the name in the operation's text.
     pub name_place: usize,

@@ -25,6 +25,7 @@ pub enum Base {
     Input(usize),
     // No input type.
     Output,
+    // Nothing: a text may write such a name, which is refused after its grammar was tested.
     Unknown,
 }
 
@@ -35,7 +36,9 @@ pub struct Shape<B = Base> {
     pub base: B,
     // How many lists stand around the name.
     pub levels: usize,
-    // Of the name itself at 0, of each list around it at 1 and up, of the whole type at `levels`.
+    // Of the name itself at 0, of each list around it at 1 and up, of the whole type at `levels`. An array, so that a
+    // type is copied and needs no heap. That there are 8 levels at most is ensured by what reads one: as a ghost field
+    // it would be asked of all who make one.
     pub non_null: [bool; MARKS],
 }
 
@@ -138,6 +141,5 @@ fn opening(tokens: &mut Tokens<'_>) -> Result<usize, Fault>
 fn non_null_mark(tokens: &mut Tokens<'_>) -> Result<bool, Fault>
     ensures { IfOk result (λ _. Onward 0 tokens.old tokens.new) }
 {
-    let bang = tokens.eat(|token| matches!(token, Token::Bang))?;
-    Ok(bang.is_some())
+    Ok(tokens.eat(|token| matches!(token, Token::Bang))?.is_some())
 }

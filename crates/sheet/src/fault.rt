@@ -17,6 +17,7 @@ pub enum RequestFault {
     NoMemory,
 }
 
+// By hand: a derived `From` does not promise which case it gives.
 impl From<ValueFault> for RequestFault {
     ghost from_gives = { λ e f. f ≡ Value e };
 

@@ -2,11 +2,10 @@
 ghost use Rattle.std.specs.Prelude.{◌≡◌, ◌-◌, ◌≤◌, length, drop, replicate, vec_len};
 ghost use Rattle.sheet.specs.Loads.{taken};
 
+pub use record::limits::LONGEST_SHEET as GREATEST_CAPACITY;
 use schema::definition::Schema;
 pub use schema::operation::MOST_VARIABLES;
 use schema::operation::Operation;
-
-pub const GREATEST_CAPACITY: usize = 65536;
 
 // Where the name and the record of a variable stand.
 #[derive(Clone, Copy, Debug)]
@@ -18,7 +17,7 @@ pub struct Extent {
 // What is known of the bytes of a sheet after an accepted load.
 #[derive(Clone, Copy)]
 pub struct Contents {
-    // Of the variables that have a value, in the order of their definitions.
+    // Of the variables that have a value, in the order of their definitions; an array, so that a load allocates nothing.
     pub extents: [Option<Extent>; MOST_VARIABLES],
     // How many bytes of the sheet count.
     pub length: usize,
@@ -26,9 +25,9 @@ pub struct Contents {
 
 // The names and records of an operation's variables. All memory that it will need is had when it is made.
 #[derive(Drop)]
-pub struct Sheet<'a, 's, 'b, 'o, R> {
+pub struct Sheet<'a, 's, 'o, R> {
     pub(crate) schema: &'a Schema<'s>,
-    pub(crate) operation: &'b Operation<'o>,
+    pub(crate) operation: &'a Operation<'o>,
     pub(crate) rule: R,
     // As many bytes as the capacity, zero past the length.
     pub(crate) bytes: Vec<u8>,

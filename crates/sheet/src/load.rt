@@ -45,23 +45,23 @@ fn replace(to: &mut [u8], from: &[u8])
 
 // What the variables of a request are walked with.
 #[derive_where(Clone, Copy)]
-struct Request<'a, 's, 'b, 'o, 'r, 'w, S, R> {
-    schema: &'a Schema<'s>,
-    operation: &'b Operation<'o>,
-    rule: &'r R,
+struct Request<'w, 's, 'o, S, R> {
+    schema: &'w Schema<'s>,
+    operation: &'w Operation<'o>,
+    rule: &'w R,
     source: &'w S,
     // The cursor of the object that holds the values.
     object: usize,
 }
 
-impl<'a, 's, 'r, S: Source, R: ScalarRule> Request<'a, 's, '_, '_, 'r, '_, S, R> {
+impl<'s, S: Source, R: ScalarRule> Request<'_, 's, '_, S, R> {
     // The walk of the variable's value in a source.
     fn walk_in<'v, T: Source>(
-        &self,
+        &'v self,
         source: &'v T,
         variable: usize,
         placed: bool,
-    ) -> Walk<'v, 'a, 's, 'r, T, R> {
+    ) -> Walk<'v, 's, T, R> {
         Walk {
             source,
             schema: self.schema,
@@ -110,15 +110,13 @@ impl<'a, 's, 'r, S: Source, R: ScalarRule> Request<'a, 's, '_, '_, 'r, '_, S, R>
         let mut extents = [None; MOST_VARIABLES];
         let mut frames = Frames::new();
         for (index, variable) in self.operation.variables.iter().enumerate() {
-            if index >= MOST_VARIABLES {
-                let spot = Spot {
-                    place: variable.place,
-                    variable: Some(index),
-                    ..Spot::default()
-                };
-                return Err(RequestFault::Value(ValueFault::NoSpace(spot)));
-            }
-            extents[index] = self.write_variable(index, variable, out, &mut frames)?;
+            let spot = Spot {
+                place: variable.place,
+                variable: Some(index),
+                ..Spot::default()
+            };
+            let extent = extents.get_mut(index).ok_or(ValueFault::NoSpace(spot))?;
+            *extent = self.write_variable(index, variable, out, &mut frames)?;
         }
         Ok(extents)
     }
@@ -140,15 +138,15 @@ impl<'a, 's, 'r, S: Source, R: ScalarRule> Request<'a, 's, '_, '_, 'r, '_, S, R>
     }
 }
 
-impl<'a, 's, 'b, 'o, R: ScalarRule> Sheet<'a, 's, 'b, 'o, R> {
+impl<'a, 's, 'o, R: ScalarRule> Sheet<'a, 's, 'o, R> {
     // An empty sheet that can hold as many bytes as the capacity says.
     pub fn new(
         heap: Global,
         schema: &'a Schema<'s>,
-        operation: &'b Operation<'o>,
+        operation: &'a Operation<'o>,
         rule: R,
         capacity: usize,
-    ) -> Result<Sheet<'a, 's, 'b, 'o, R>, RequestFault>
+    ) -> Result<Sheet<'a, 's, 'o, R>, RequestFault>
     where
         R: Drop,
         ensures made { IfOk result (λ s. (capacity ≤ 65536) × (vec_len s.bytes ≡ capacity) × (s.contents ≡ None)) }
@@ -174,7 +172,7 @@ impl<'a, 's, 'b, 'o, R: ScalarRule> Sheet<'a, 's, 'b, 'o, R> {
         ensures { result.now ≡ take (taken self.now.contents) self.now.bytes.items }
     {
         let length = self.contents.as_ref().map_or(0, |contents| contents.length);
-        &self.bytes.as_slice()[0..length]
+        &self.bytes.as_slice()[..length]
     }
 
     // Reads a JSON text, and loads the values that it writes.

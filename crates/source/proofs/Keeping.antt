@@ -1,10 +1,11 @@
 -- What stays when a table grows.
-use Rattle.std.proofs.Common.{◌≡◌, ℕ, ◌+◌, ◌<◌, ◌≤◌, List, [], ◌++◌, length, sym, refl, ap, ◌∙◌, subst, append_assoc, append-nil, arith}
+use Rattle.std.proofs.Common.{◌≡◌, ℕ, ◌+◌, ◌<◌, ◌≤◌, List, [], ◌++◌, length, Some, None, Option, sym, refl, ap, ◌∙◌, subst, append_assoc, append-nil, arith}
 use Rattle.model.specs.Values.{Raw, Raws, Mems, null, scalar, variable, list, object, nil, cons, end, mem}
 use Rattle.names.specs.declared.part.Part.{Part}
-use Rattle.names.specs.Parts.{PartFits, bytes_of}
+use Rattle.names.specs.Parts.{PartFits, MayFit, bytes_of, bytes_if_any}
 use Rattle.names.proofs.Growth.{fits_pool, bytes_pool}
 use Rattle.source.specs.declared.nodes.Node.{Node}
+use Rattle.source.specs.Contents.{text_in}
 use Rattle.source.specs.Nodes.{node_at}
 use Rattle.source.specs.Table.{Table, Says, Head, Named, Stands, StandsAll, StandsMems, Keeps, past_of}
 use Rattle.source.specs.OneTree.{head_of}
@@ -30,6 +31,14 @@ pub bytes_kept : {k : ℕ} {T U : Table} → Keeps k T U → (p : Part) → Part
 bytes_kept {k} {T} {U} a p h =
     ap (λ x. bytes_of x U.pool p) a.text ∙ ap (λ x. bytes_of T.text x p) a.pool ∙ bytes_pool T.text T.pool a.more p h
 
+may_fit_kept : {k : ℕ} {T U : Table} → Keeps k T U → (p : Option Part) → MayFit T.text T.pool p → MayFit U.text U.pool p
+may_fit_kept a None h = tt
+may_fit_kept a (Some p) h = fits_kept a p h
+
+any_bytes_kept : {k : ℕ} {T U : Table} → Keeps k T U → (p : Option Part) → MayFit T.text T.pool p → bytes_if_any U.text U.pool p ≡ bytes_if_any T.text T.pool p
+any_bytes_kept a None h = refl
+any_bytes_kept a (Some p) h = bytes_kept a p h
+
 -- what a node says, with its text in a table that grew
 pub says_kept : {k : ℕ} {T U : Table} {n : Node} {t : Raw} → Keeps k T U → Says T n t → Says U n t
 says_kept {n = n} a s = record {
@@ -38,8 +47,8 @@ says_kept {n = n} a s = record {
   flag = s.flag;
   negative = s.negative;
   exponent = s.exponent;
-  fits = fits_kept a n.text s.fits;
-  text = bytes_kept a n.text s.fits ∙ s.text;
+  fits = may_fit_kept a (text_in n.content) s.fits;
+  text = any_bytes_kept a (text_in n.content) s.fits ∙ s.text;
 }
 
 pub past_kept : {k : ℕ} {T U : Table} → Keeps k T U → (at : ℕ) → k ≤ at → at < length T.nodes → past_of U.nodes at ≡ past_of T.nodes at
@@ -59,12 +68,12 @@ size_kept : {k : ℕ} {T U : Table} → Keeps k T U → (at n : ℕ) → k ≤ a
 size_kept a at n h l e = ap (λ (n : Node). n.size) (a.nodes at h l) ∙ e
 
 pub named_kept : {k : ℕ} {T U : Table} → Keeps k T U → (at : ℕ) (n : List ℕ) → k ≤ at → at < length T.nodes → Named T at n → Named U at n
-named_kept {k} {T} {U} a at n h l s =
-    let e = ap (λ (n : Node). n.name) (a.nodes at h l) in
-    record {
-      fits = subst (λ (p : Part). PartFits U.text U.pool p) (sym e) (fits_kept a (node_at T.nodes at).name s.fits);
-      is = ap (λ (p : Part). bytes_of U.text U.pool p) e ∙ bytes_kept a (node_at T.nodes at).name s.fits ∙ s.is;
-    }
+named_kept a at n h l s = record {
+  part = s.part;
+  some = ap (λ (n : Node). n.name) (a.nodes at h l) ∙ s.some;
+  fits = fits_kept a s.part s.fits;
+  is = bytes_kept a s.part s.fits ∙ s.is;
+}
 
 within_of : {T : Table} {at : ℕ} {t : Raw} → Head T at t → at < length T.nodes
 within_of s = omega (arith, s.some, s.inside)

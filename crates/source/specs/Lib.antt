@@ -1,4 +1,5 @@
 pub mod Heads
+pub mod Contents
 pub mod Standing
 pub mod Spans
 pub mod Nodes

@@ -1,28 +1,24 @@
 -- Nodes, and what the functions on their table do.
-use Rattle.std.specs.Prelude.{◌≡◌, ℕ, ◌-◌, false, cond, List, [], ◌∷◌, ◌++◌, length, pos, Ok, Err, Result, nat_lt, slice_index_or, slice_set}
+use Rattle.std.specs.Prelude.{◌≡◌, ℕ, ◌-◌, cond, List, [], ◌∷◌, ◌++◌, length, None, Ok, Err, Option, Result, nat_lt, slice_index_or, slice_set}
 use Rattle.names.specs.declared.part.Part.{Part}
-use Rattle.names.specs.declared.part.Part.TheVariants.{Text}
-use Rattle.source.specs.declared.raw.Kind.{Kind}
-use Rattle.source.specs.declared.raw.Kind.TheVariants.{Null}
+use Rattle.source.specs.declared.nodes.Content.{Content}
+use Rattle.source.specs.declared.nodes.Content.TheVariants.{Null}
 use Rattle.source.specs.declared.nodes.Node.{Node}
-
-abbrev pub nowhere : Part
-nowhere = Text 0 0
 
 -- what stands for a node that is not there
 abbrev pub blank : Node
-blank = record { kind = Null; place = 0; flag = false; scale = record { negative = false; exponent = pos 0 }; name = nowhere; text = nowhere; size = 0 }
+blank = record { content = Null; place = 0; size = 0; name = None }
 
 abbrev pub node_at : List Node → ℕ → Node
 node_at nodes at = slice_index_or nodes at blank
 
 -- a node with nothing below it yet
-abbrev pub headed : Kind → ℕ → Part → Node
-headed kind place name = record { kind = kind; place = place; flag = false; scale = record { negative = false; exponent = pos 0 }; name = name; text = nowhere; size = 1 }
+abbrev pub headed : Content → ℕ → Option Part → Node
+headed content place name = record { content = content; place = place; size = 1; name = name }
 
 -- a node of another size
 abbrev pub sized : Node → ℕ → Node
-sized n k = record { kind = n.kind; place = n.place; flag = n.flag; scale = n.scale; name = n.name; text = n.text; size = k }
+sized n k = record { content = n.content; place = n.place; size = k; name = n.name }
 
 -- all nodes after the one at `at` are below it
 abbrev pub closed : List Node → ℕ → List Node

@@ -1,9 +1,10 @@
 -- One tree at most stands at a cursor.
-use Rattle.std.proofs.Common.{◌≡◌, ◌≢◌, ℕ, ◌+◌, ◌≤◌, sym, refl, ap, ◌∙◌, arith}
+use Rattle.std.proofs.Common.{◌≡◌, ◌≢◌, ℕ, ◌+◌, ◌≤◌, List, sym, refl, ap, ◌∙◌, arith}
 use Rattle.model.specs.Values.{Dec, Scalar, boolean, whole, decimal, string, symbol, Raw, Raws, Mems, null, scalar, variable, list, object, nil, cons, end, mem}
+use Rattle.names.specs.Parts.{bytes_if_any}
 use Rattle.source.specs.declared.raw.Kind.TheVariants.{Null, Variable, List as ListKind, Object}
 use Rattle.source.specs.Heads.{scalar_kind, scalar_flag, scalar_text, scalar_negative, scalar_exponent, kind_of}
-use Rattle.source.specs.Table.{Table, Head, past_of, Stands, StandsAll, StandsMems, Held}
+use Rattle.source.specs.Table.{Table, Head, Named, past_of, Stands, StandsAll, StandsMems, Held}
 use Rattle.source.specs.Standing.{Lawful}
 
 pub head_of : (T : Table) (at : ℕ) (t : Raw) → Stands T at t → Head T at t
@@ -69,6 +70,9 @@ scalars_same {p = p} {q} s u g h =
     let e = one_scalar s u (one_kind g h) (sym g.says.flag ∙ h.says.flag) (sym g.says.text ∙ h.says.text) (sym g.says.negative ∙ h.says.negative) (sym g.says.exponent ∙ h.says.exponent) in
     ap (λ k. scalar k s) (sym g.says.place ∙ h.says.place) ∙ ap (scalar q) e
 
+one_name : {T : Table} {at : ℕ} {m n : List ℕ} → Named T at m → Named T at n → m ≡ n
+one_name {T} g h = sym g.is ∙ ap (bytes_if_any T.text T.pool) (sym g.some ∙ h.some) ∙ h.is
+
 mutual
   pub one_tree : (T : Table) (at : ℕ) (t u : Raw) → Stands T at t → Stands T at u → t ≡ u
   one_tree T at (null p) (null q) g h = ap null (sym g.0.says.place ∙ h.0.says.place)
@@ -108,7 +112,7 @@ mutual
   one_mems T i j end (mem n y ns) g h = absurd (omega (arith, g, (head_of T i y h.1).some, forward_mems T _ j ns h.2))
   one_mems T i j (mem m x ms) end g h = absurd (omega (arith, h, (head_of T i x g.1).some, forward_mems T _ j ms g.2))
   one_mems T i j (mem m x ms) (mem n y ns) g h =
-      ap (λ z. mem z x ms) (sym g.0.is ∙ h.0.is) ∙ ap (λ z. mem n z ms) (one_tree T i x y g.1 h.1) ∙ ap (mem n y) (one_mems T _ j ms ns g.2 h.2)
+      ap (λ z. mem z x ms) (one_name g.0 h.0) ∙ ap (λ z. mem n z ms) (one_tree T i x y g.1 h.1) ∙ ap (mem n y) (one_mems T _ j ms ns g.2 h.2)
 
 -- what a source over a table owes
 pub lawful : {S : Type 0} (table : S → Table) → Lawful (λ (s : S). Held (table s))

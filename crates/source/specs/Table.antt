@@ -1,13 +1,15 @@
 -- The table of nodes, and which tree stands at a node.
-use Rattle.std.specs.Prelude.{◌≡◌, ℕ, ◌+◌, ◌<◌, ◌≤◌, List, ◌++◌, length, vec_items}
+use Rattle.std.specs.Prelude.{◌≡◌, ℕ, ◌+◌, ◌<◌, ◌≤◌, List, ◌++◌, length, Some, vec_items}
 use Rattle.model.specs.Values.{Raw, Raws, Mems, null, scalar, variable, list, object, nil, cons, end, mem, place_of}
 use Rattle.model.specs.Limits.{RawLimits, RawLimitsAll, RawLimitsMems}
-use Rattle.names.specs.Parts.{PartFits, bytes_of}
+use Rattle.names.specs.declared.part.Part.{Part}
+use Rattle.names.specs.Parts.{PartFits, MayFit, bytes_of, bytes_if_any}
 use Rattle.source.specs.declared.raw.Span.{Span}
 use Rattle.source.specs.declared.nodes.Node.{Node}
 use Rattle.source.specs.declared.nodes.Nodes.{Nodes}
 use Rattle.source.specs.declared.tree.Tree.{Tree}
 use Rattle.source.specs.Nodes.{node_at}
+use Rattle.source.specs.Contents.{kind_in, flag_in, text_in, negative_in, exponent_in}
 use Rattle.source.specs.Heads.{kind_of, flag_of, text_of, negative_of, exponent_of}
 
 -- the cursor past a node and all below it
@@ -28,13 +30,13 @@ tree_table t = table_of t.text.now t.nodes
 
 -- the node says what the value says of itself
 pub record Says (T : Table) (n : Node) (t : Raw) : Type 0 where
-  pub kind : n.kind ≡ kind_of t
+  pub kind : kind_in n.content ≡ kind_of t
   pub place : n.place ≡ place_of t
-  pub flag : n.flag ≡ flag_of t
-  pub negative : n.scale.negative ≡ negative_of t
-  pub exponent : n.scale.exponent ≡ exponent_of t
-  pub fits : PartFits T.text T.pool n.text
-  pub text : bytes_of T.text T.pool n.text ≡ text_of t
+  pub flag : flag_in n.content ≡ flag_of t
+  pub negative : negative_in n.content ≡ negative_of t
+  pub exponent : exponent_in n.content ≡ exponent_of t
+  pub fits : MayFit T.text T.pool (text_in n.content)
+  pub text : bytes_if_any T.text T.pool (text_in n.content) ≡ text_of t
 
 -- the node at the cursor says what the value says, and what is below it ends within the table
 pub record Head (T : Table) (at : ℕ) (t : Raw) : Type 0 where
@@ -44,8 +46,10 @@ pub record Head (T : Table) (at : ℕ) (t : Raw) : Type 0 where
 
 -- the node at the cursor is a member of that name
 pub record Named (T : Table) (at : ℕ) (n : List ℕ) : Type 0 where
-  pub fits : PartFits T.text T.pool (node_at T.nodes at).name
-  pub is : bytes_of T.text T.pool (node_at T.nodes at).name ≡ n
+  pub part : Part
+  pub some : (node_at T.nodes at).name ≡ Some part
+  pub fits : PartFits T.text T.pool part
+  pub is : bytes_of T.text T.pool part ≡ n
 
 -- a value's nodes: its own, and after it those of its items or members, up to the cursor past it
 abbrev mutual

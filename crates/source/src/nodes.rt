@@ -1,5 +1,6 @@
 // A table of nodes in preorder, and the bytes that no text holds as they are.
 ghost use Rattle.std.specs.Prelude.{◌≡◌, []};
+ghost use Rattle.source.specs.Contents.{kind_in, text_in};
 ghost use Rattle.source.specs.Nodes.{node_at, headed, closed, AddTold};
 
 use crate::raw::Kind;
@@ -8,19 +9,66 @@ pub use names::part::Part;
 use std::alloc::{AllocError, Global};
 use text::decimal::Scale;
 
+// What a value says of itself; what is inside a list or an object stands in the nodes after it.
+#[derive(Clone, Copy, Debug)]
+pub enum Content {
+    Null,
+    Boolean(bool),
+    // In normal form.
+    Whole(Part),
+    Decimal { scale: Scale, digits: Part },
+    String(Part),
+    Enum(Part),
+    // Its name.
+    Variable(Part),
+    List,
+    Object,
+}
+
+impl Content {
+    pub fn kind(self) -> Kind
+        ensures { result ≡ kind_in self }
+    {
+        match self {
+            Content::Null => Kind::Null,
+            Content::Boolean(_) => Kind::Boolean,
+            Content::Whole(_) => Kind::Whole,
+            Content::Decimal { .. } => Kind::Decimal,
+            Content::String(_) => Kind::String,
+            Content::Enum(_) => Kind::Enum,
+            Content::Variable(_) => Kind::Variable,
+            Content::List => Kind::List,
+            Content::Object => Kind::Object,
+        }
+    }
+
+    // Where the bytes stand that the value writes, if it writes any.
+    pub(crate) fn text(self) -> Option<Part>
+        ensures { result ≡ text_in self }
+    {
+        match self {
+            Content::Whole(part)
+            | Content::Decimal { digits: part, .. }
+            | Content::String(part)
+            | Content::Enum(part)
+            | Content::Variable(part) => Some(part),
+            Content::Null | Content::Boolean(_) | Content::List | Content::Object => None,
+        }
+    }
+}
+
 // A value; those inside it follow it in the table.
 #[derive(Clone, Copy, Debug)]
 pub struct Node {
-    pub kind: Kind,
+    pub content: Content,
     pub place: usize,
-    pub flag: bool,
-    pub scale: Scale,
-    pub name: Part,
-    pub text: Part,
     // Counts the node and all below it.
     pub size: usize,
+    // Of a member's value.
+    pub name: Option<Part>,
 }
 
+// One table for a text: no value costs an allocation.
 #[derive(Drop)]
 pub struct Nodes {
     pub list: Vec<Node>,
@@ -32,25 +80,21 @@ pub struct Nodes {
 impl Node {
     // Stands for a node that is not there.
     pub const NOTHING: Node = Node {
-        kind: Kind::Null,
+        content: Content::Null,
         place: 0,
-        flag: false,
-        scale: Scale::ZERO,
-        name: Part::EMPTY,
-        text: Part::EMPTY,
         size: 0,
+        name: None,
     };
 
     // A node with nothing below it yet.
-    pub fn new(kind: Kind, place: usize, name: Part) -> Node
-        ensures { result ≡ headed kind place name }
+    pub fn new(content: Content, place: usize, name: Option<Part>) -> Node
+        ensures { result ≡ headed content place name }
     {
         Node {
-            kind,
+            content,
             place,
-            name,
             size: 1,
-            ..Node::NOTHING
+            name,
         }
     }
 }
@@ -84,9 +128,9 @@ impl Nodes {
         ensures pool { self.new.pool ≡ self.old.pool }
         ensures names { self.new.names ≡ self.old.names }
     {
-        if at < self.list.len() {
-            let size = self.list.len() - at;
-            self.list[at].size = size;
+        let len = self.list.len();
+        if let Some(node) = self.list.get_mut(at) {
+            node.size = len - at;
         }
     }
 

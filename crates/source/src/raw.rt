@@ -5,8 +5,9 @@ ghost use Rattle.model.specs.Values.{Raw, Raws, Mems, list, object, place_of};
 ghost use Rattle.model.specs.Coercion.{member as member_of};
 ghost use Rattle.source.specs.declared.raw.Span.{Span};
 ghost use Rattle.source.specs.Heads.{kind_of, flag_of, text_of};
-ghost use Rattle.source.specs.Spans.{Taken, Within};
-ghost use Rattle.source.specs.Standing.{Lawful, Shrinks, LeadsItems, LeadsMembers, Found, Scaled};
+ghost use Rattle.source.specs.Spans.{Taken, Within, Hands};
+ghost use Rattle.std.specs.Iterator.{at_most};
+ghost use Rattle.source.specs.Standing.{Lawful, Shrinks, LeadsItems, LeadsMembers, Found, Scaled, width};
 
 use text::decimal::Scale;
 use text::language::Language;
@@ -25,6 +26,7 @@ pub enum Kind {
 }
 
 // The items or members that are still to come: cursors from `from` on, before `to`.
+// No `Range`, which is not `Copy`.
 #[derive(Clone, Copy, Debug)]
 pub struct Span {
     pub from: usize,
@@ -39,10 +41,11 @@ impl Span {
 // A finite tree of raw values, asked by cursors. Asking changes nothing.
 // A cursor that stands for nothing answers as null, and with nothing in it.
 // Each answer is that of the tree at the cursor, whichever tree stands there.
-pub trait Source {
+pub trait Source: Sized {
     // The language that the values are written in.
     const FORM: Language;
 
+    // Beside FORM: no clause can name a constant at a type with a lifetime.
     ghost form: { Language };
 
     // The cursor past a value and all below it.
@@ -61,8 +64,6 @@ pub trait Source {
     ghost items: { Self → Span → Raws → Type 0 };
 
     ghost members: { Self → Span → Mems → Type 0 };
-
-    ghost laws: { Lawful stands };
 
     // Answers FORM.
     fn written(&self) -> Language
@@ -107,17 +108,48 @@ pub trait Source {
     fn name(&self, at: usize) -> &[u8]
         ensures { (n : Bytes ℕ) → named self.now at n → result.now ≡ n };
 
+    // One tree at most stands at a cursor, within the limits of a source.
+    ghost laws: { Lawful stands };
+
     // The value of the member with that name.
-    fn member(&self, at: usize, name: &[u8]) -> Option<usize>
+    // `final`, as `values` is: a body that may be replaced cannot pass `Self` on to a bound on `Source`.
+    final fn member(&self, at: usize, name: &[u8]) -> Option<usize>
         ensures { (p : ℕ) (ms : Mems) → stands self.now at (object p ms) → Found (stands self.now) (member_of ms name.now) result }
     {
-        let mut span = self.inside(at);
-        while let Some((at, rest)) = self.next(span) {
-            if self.name(at) == name {
-                return Some(at);
-            }
-            span = rest;
+        self.values(at).find(|at| self.name(*at) == name)
+    }
+
+    // The items of a list, or the members' values of an object, one by one.
+    final fn values(&self, at: usize) -> Values<'_, Self>
+        ensures source { result.source.now ≡ self.now }
+        ensures narrow { Within (past self.now at) at result.span }
+        ensures listed { (p : ℕ) (xs : Raws) → stands self.now at (list p xs) → items self.now result.span xs }
+        ensures fielded { (p : ℕ) (ms : Mems) → stands self.now at (object p ms) → members self.now result.span ms }
+    {
+        Values {
+            source: self,
+            span: self.inside(at),
         }
-        None
+    }
+}
+
+// The cursors of the values in a span.
+#[derive(Drop)]
+pub struct Values<'s, S> {
+    pub source: &'s S,
+    pub span: Span,
+}
+
+impl<S: Source> Iterator for Values<'_, S> {
+    type Item = usize;
+
+    ghost next_gives = { λ s r t. (t.source.now ≡ s.source.now) × Hands (S.past s.source.now) (S.named s.source.now) (S.stands s.source.now) (S.items s.source.now) (S.members s.source.now) s.span r t.span };
+
+    ghost remaining = { λ s. at_most (width s.span) };
+
+    fn next(&mut self) -> Option<usize> {
+        let (at, rest) = self.source.next(self.span)?;
+        self.span = rest;
+        Some(at)
     }
 }

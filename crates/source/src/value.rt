@@ -2,11 +2,15 @@
 ghost use Rattle.std.specs.Prelude.{◌≡◌};
 ghost use Rattle.text.specs.declared.language.Language.{Language};
 ghost use Rattle.text.specs.declared.language.Language.TheVariants.{Json as JsonLanguage, Graphql as GraphqlLanguage};
+ghost use Rattle.names.specs.Parts.{MayFit, bytes_if_any};
+ghost use Rattle.source.specs.Nodes.{node_at};
 ghost use Rattle.source.specs.Table.{past_of, tree_table, Held, HeldAll, HeldMems, Named};
 ghost use Rattle.source.specs.OneTree.{lawful};
 
+use crate::nodes::{Content, Node};
 use crate::raw::{Kind, Source, Span};
 use crate::tree::Tree;
+use names::part::{Holder, Part};
 use std::marker::PhantomData;
 use text::decimal::Scale;
 use text::language::Language;
@@ -43,7 +47,7 @@ impl Written for Graphql {
 pub struct Value<'t, 'a, W> {
     tree: &'t Tree<'a>,
     root: usize,
-    written: PhantomData<W>,
+    language: PhantomData<W>,
 }
 
 pub type Literal<'t, 'a> = Value<'t, 'a, Graphql>;
@@ -57,7 +61,28 @@ impl<'t, 'a, W> Value<'t, 'a, W> {
         Value {
             tree,
             root,
-            written: PhantomData,
+            language: PhantomData,
+        }
+    }
+
+    fn node(&self, at: usize) -> Node
+        ensures { result ≡ node_at self.now.tree.now.nodes.list.items at }
+    {
+        self.tree.nodes.get(at)
+    }
+
+    // The bytes of a part; none where there is none.
+    fn bytes(&self, part: Option<Part>) -> &[u8]
+        ensures { MayFit self.now.tree.now.text.now self.now.tree.now.nodes.pool.items part → result.now ≡ bytes_if_any self.now.tree.now.text.now self.now.tree.now.nodes.pool.items part }
+    {
+        let holder = Holder {
+            text: self.tree.text,
+            pool: &self.tree.nodes.pool,
+        };
+        // A match: what a closure gives `map` does not show here.
+        match part {
+            Some(part) => part.bytes(holder),
+            None => &[],
         }
     }
 }
@@ -90,34 +115,56 @@ impl<W: Written> Source for Value<'_, '_, W> {
     }
 
     fn kind(&self, at: usize) -> Kind {
-        self.tree.kind(at)
+        self.node(at).content.kind()
     }
 
     fn place(&self, at: usize) -> usize {
-        self.tree.place(at)
+        self.node(at).place
     }
 
     fn boolean(&self, at: usize) -> bool {
-        self.tree.boolean(at)
+        matches!(self.node(at).content, Content::Boolean(true))
     }
 
     fn text(&self, at: usize) -> &[u8] {
-        self.tree.text(at)
+        self.bytes(self.node(at).content.text())
     }
 
     fn scale(&self, at: usize) -> Scale {
-        self.tree.scale(at)
+        match self.node(at).content {
+            Content::Decimal { scale, .. } => scale,
+            _ => Scale::ZERO,
+        }
     }
 
     fn inside(&self, at: usize) -> Span {
-        self.tree.inside(at)
+        let len = self.tree.nodes.list.len();
+        let node = self.node(at);
+        match node.content {
+            Content::List | Content::Object if at < len && node.size <= len - at => Span {
+                from: at + 1,
+                to: at + node.size,
+            },
+            _ => Span::EMPTY,
+        }
     }
 
     fn next(&self, span: Span) -> Option<(usize, Span)> {
-        self.tree.next(span)
+        let Span { from, to } = span;
+        let size = self.node(from).size;
+        if size == 0 || size > to.saturating_sub(from) {
+            return None;
+        }
+        Some((
+            from,
+            Span {
+                from: from + size,
+                to,
+            },
+        ))
     }
 
     fn name(&self, at: usize) -> &[u8] {
-        self.tree.name(at)
+        self.bytes(self.node(at).name)
     }
 }

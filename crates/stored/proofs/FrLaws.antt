@@ -2,10 +2,11 @@
 use Rattle.std.proofs.Common.{◌≡◌, ℕ, ◌+◌, ◌-◌, ◌*◌, ◌/◌, ◌%◌, ◌^◌, ◌<◌, ◌≤◌, List, ◌∷◌, ◌++◌, length, min, get_or, take, drop, sym, ap, ◌∙◌, arith}
 use native.Mathlib.Nat.{div-div-eq-div-mul}
 use Rattle.std.proofs.lemmas.List.{get_or-drop, get_or-take, drop_more}
+use Rattle.text.specs.Cuts.{part}
 use Rattle.text.proofs.LexBase.{cut, length_part}
 use Rattle.model.specs.Records.{framed}
-use Rattle.stored.specs.declared.header.Frame.{Frame}
-use Rattle.stored.specs.Frames.{Framed, Unframed, FrameAt, body_in}
+use Rattle.stored.specs.declared.header.Record.{Record}
+use Rattle.stored.specs.Frames.{past, Framed, Unframed, end_of, RecordAt, Valued, a_member}
 use Rattle.stored.specs.Past.{size_at}
 use Rattle.stored.specs.OneFrame.{inside}
 
@@ -83,21 +84,25 @@ joined bytes i e z b s w l d =
     cc
 
 -- a header that fits is that of a record
-pub frame_is : (bytes : List ℕ) (i to size : ℕ) (h : Frame) → i + 6 ≤ length bytes → Small bytes i → size ≡ size_at bytes i → h.kind ≡ get_or bytes (i + 4) 0 → h.from ≡ i + 6 → h.end ≡ h.from + size → h.body.now ≡ body_in bytes h → h.end ≤ to → h.end ≤ length bytes → get_or bytes (i + 5) 0 ≡ 0 → FrameAt bytes i to h
-frame_is bytes i to size h room small is kind at ends body fits within zero =
-    let b = body_in bytes h in
-    let l : length b ≡ size = length_part bytes h.from h.end within ∙ omega arith in
-    let whole : drop i bytes ≡ framed h.kind b ++ drop h.end bytes =
-    rw kind (six bytes i room ∙ joined bytes i h.end (get_or bytes (i + 5) 0) b small zero (l ∙ is) (ap (λ k. drop k bytes) (sym at) ∙ cut bytes h.from h.end (omega arith))) in
-    record {
-      framed = record { rest = drop h.end bytes; there = whole; small = omega arith; within = omega arith };
-      whole = body;
-      starts = at;
-      forward = omega arith;
-      ends = omega arith;
-      within = fits;
-      inside = within;
-    }
+pub frame_is : (bytes : List ℕ) (i to size : ℕ) (h : Record) → i + 6 ≤ length bytes → Small bytes i → size ≡ size_at bytes i → h.kind ≡ get_or bytes (i + 4) 0 → h.from ≡ i + 6 → h.body.now ≡ part bytes (i + 6) (i + 6 + size) → i + 6 + size ≤ to → i + 6 + size ≤ length bytes → get_or bytes (i + 5) 0 ≡ 0 → RecordAt bytes i to h
+frame_is bytes i to size h room small is kind at body fits within zero =
+    let b = h.body.now in
+    let e = i + 6 + size in
+    let l : length b ≡ size = ap length body ∙ length_part bytes (i + 6) e within ∙ omega arith in
+    let inner : drop (i + 6) bytes ≡ b ++ drop e bytes = rw body (cut bytes (i + 6) e (omega arith)) in
+    let whole : drop i bytes ≡ framed h.kind b ++ drop e bytes =
+    rw kind (six bytes i room ∙ joined bytes i e (get_or bytes (i + 5) 0) b small zero (l ∙ is) inner) in
+    record { framed = record { rest = drop e bytes; there = whole; small = omega arith; within = omega arith }; starts = at }
+
+-- where a record that was found ends
+pub ends : {bytes : List ℕ} {i to : ℕ} {h : Record} → RecordAt bytes i to h → end_of h ≡ past i h.body.now
+ends a = omega (arith, a.starts)
+
+pub within : {bytes : List ℕ} {i to : ℕ} {h : Record} → RecordAt bytes i to h → end_of h ≤ to
+within a = omega (arith, a.starts, a.framed.within)
+
+pub ends_inside : {bytes : List ℕ} {i to : ℕ} {h : Record} → RecordAt bytes i to h → end_of h ≤ length bytes
+ends_inside a = omega (arith, a.starts, inside a.framed)
 
 -- what was cut from the bytes, at i
 pub record Cut (bytes : List ℕ) (i top : ℕ) (xs : List ℕ) : Type 0 where
@@ -128,11 +133,15 @@ overlong bytes xs i to top size c least six_long is more k b f =
     omega arith
 
 -- a header that was cut from the bytes
-pub frame_in : (bytes xs : List ℕ) (i to top size : ℕ) (h : Frame) → Cut bytes i top xs → top ≤ to → 6 ≤ length xs → Small bytes i → size ≡ get_or xs 0 0 + get_or xs 1 0 * 256 + get_or xs 2 0 * 65536 + get_or xs 3 0 * 16777216 → get_or xs 5 0 ≡ 0 → size ≤ length xs - 6 → h.kind ≡ get_or xs 4 0 → h.from ≡ i + 6 → h.end ≡ i + 6 + size → h.body.now ≡ body_in bytes h → FrameAt bytes i to h
-frame_in bytes xs i to top size h c up six_long small is zero fits kind at ends body =
+pub frame_in : (bytes xs : List ℕ) (i to top size : ℕ) (h : Record) → Cut bytes i top xs → top ≤ to → 6 ≤ length xs → Small bytes i → size ≡ get_or xs 0 0 + get_or xs 1 0 * 256 + get_or xs 2 0 * 65536 + get_or xs 3 0 * 16777216 → get_or xs 5 0 ≡ 0 → size ≤ length xs - 6 → h.kind ≡ get_or xs 4 0 → h.from ≡ i + 6 → h.body.now ≡ part bytes (i + 6) (i + 6 + size) → RecordAt bytes i to h
+frame_in bytes xs i to top size h c up six_long small is zero fits kind at body =
     let l = c.long in
     let w = c.within in
     let s = cut_size size c six_long is in
     let b4 = cut_byte 4 c (omega arith) in
     let b5 = cut_byte 5 c (omega arith) in
-    frame_is bytes i to size h (omega arith) small s (kind ∙ b4) at (omega arith) body (omega arith) (omega arith) (omega arith)
+    frame_is bytes i to size h (omega arith) small s (kind ∙ b4) at body (omega arith) (omega arith) (omega arith)
+
+-- the record of a member's value, where its name's ends
+pub member_at : {bytes : List ℕ} {i to e : ℕ} {g h : Record} → RecordAt bytes i to g → g.kind ≡ 8 → e ≡ end_of g → RecordAt bytes e to h → Valued bytes i to e h
+member_at a k q b = rw q (a_member a k (rw q at b))

@@ -10,7 +10,7 @@ use Rattle.source.specs.declared.raw.Kind.TheVariants.{Null, Boolean, Whole, Dec
 use Rattle.source.specs.declared.raw.Span.{Span}
 use Rattle.record.specs.Kinds.{number_of}
 use Rattle.record.specs.declared.kind.RecordKind.{RecordKind}
-use Rattle.stored.specs.declared.header.Frame.{Frame}
+use Rattle.stored.specs.declared.header.Record.{Record}
 use Rattle.stored.specs.declared.stored.Target.{Target}
 use Rattle.stored.specs.Frames.{past, Framed, Fills}
 use Rattle.stored.specs.Past.{past_at}
@@ -88,21 +88,21 @@ abbrev pub FollowTold : List ℕ → ℕ → Option Target → Type 0
 FollowTold bytes at None = (p f : ℕ) (x : Rec) → Leads bytes at p f x → ⊥
 FollowTold bytes at (Some h) = Follows bytes at h
 
--- the record at a place, by its frame
-pub record OfFrame (at : ℕ) (frame : Frame) (h : Target) : Type 0 where
+-- the target of the record that was found at a place
+pub record TargetOf (at : ℕ) (found : Record) (h : Target) : Type 0 where
   pub place : h.place ≡ at
-  pub kinds : number_of h.kind ≡ frame.kind
-  pub from : h.from ≡ frame.from
-  pub body : h.body.now ≡ frame.body.now
+  pub kinds : number_of h.kind ≡ found.kind
+  pub from : h.from ≡ found.from
+  pub body : h.body.now ≡ found.body.now
 
--- the frame's record, or that no kind has its number
-abbrev pub TargetTold : ℕ → Frame → Option Target → Type 0
-TargetTold at frame None = (q : RecordKind) → number_of q ≢ frame.kind
-TargetTold at frame (Some h) = OfFrame at frame h
+-- that record, or that no kind has its number
+abbrev pub TargetTold : ℕ → Record → Option Target → Type 0
+TargetTold at found None = (q : RecordKind) → number_of q ≢ found.kind
+TargetTold at found (Some h) = TargetOf at found h
 
 -- the kind of a raw value, by the number of a record's
-abbrev pub kind_for_lem : ℕ → Kind
-kind_for_lem k = cond (k == 2) Boolean (cond (k == 3) Whole (cond (k == 4) Decimal (cond (k == 5) String (cond (k == 6) ListKind (cond (k == 7) Object Null)))))
+abbrev pub kind_numbered : ℕ → Kind
+kind_numbered k = cond (k == 2) Boolean (cond (k == 3) Whole (cond (k == 4) Decimal (cond (k == 5) String (cond (k == 6) ListKind (cond (k == 7) Object Null)))))
 
 -- P of every raw value that a record within the limits shows, by its kind and body
 abbrev pub OfRecord : (Raw → Type 0) → ℕ → List ℕ → Type 0

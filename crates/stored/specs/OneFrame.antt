@@ -1,22 +1,12 @@
 -- One record stands at a place, and ends within the bytes.
-use Rattle.std.specs.Prelude.{◌≡◌, ℕ, ◌/◌, ◌%◌, ◌^◌, ◌<◌, ◌≤◌, List, [], ◌∷◌, ◌++◌, length, refl}
-use Rattle.std.proofs.Common.{sym, ap, ap₂, ◌∙◌, arith, length-append, length-drop}
+use Rattle.std.specs.Prelude.{◌≡◌, ℕ, ◌/◌, ◌%◌, ◌^◌, ◌<◌, ◌≤◌, List, ◌++◌, length}
+use Rattle.std.proofs.Common.{sym, ap, ap₂, ◌∙◌, take, arith, length-append, length-drop}
+use Rattle.std.proofs.Math.Seq.{take-append_seam}
 use Rattle.model.specs.Records.{framed}
 use Rattle.stored.specs.Frames.{past, Framed}
 
 le32-same : (m n : ℕ) → m < 2 ^ 32 → n < 2 ^ 32 → m % 256 ≡ n % 256 → m / 256 % 256 ≡ n / 256 % 256 → m / 65536 % 256 ≡ n / 65536 % 256 → m / 16777216 % 256 ≡ n / 16777216 % 256 → m ≡ n
 le32-same m n a b p q r s = omega arith
-
--- lists of one length are told from what follows them
-split : (a b x y : List ℕ) → length a ≡ length b → a ++ x ≡ b ++ y → (a ≡ b) × (x ≡ y)
-split [] [] x y l e = (refl, e)
-split [] (b ∷ bs) x y l e = absurd (omega arith)
-split (a ∷ cs) [] x y l e = absurd (omega arith)
-split (a ∷ cs) (b ∷ bs) x y l e =
-    let f : cs ++ x ≡ bs ++ y = cc in
-    let h : a ≡ b = cc in
-    let p = split cs bs x y (omega arith) f in
-    (ap₂ (λ (u : ℕ) (us : List ℕ). u ∷ us) h p.0, p.1)
 
 -- one record stands at a place
 pub one_framed : {bytes : List ℕ} {i to up k l : ℕ} {b c : List ℕ} → Framed bytes i to k b → Framed bytes i up l c → (k ≡ l) × (b ≡ c)
@@ -29,7 +19,7 @@ one_framed {k = k} {l} {b} {c} f g =
     let n = le32-same (length b) (length c) f.small g.small p q r s in
     let t : b ++ f.rest ≡ c ++ g.rest = cc in
     let same : k ≡ l = cc in
-    (same, (split b c f.rest g.rest n t).0)
+    (same, sym (take-append_seam b f.rest) ∙ ap₂ (λ (m : ℕ) (xs : List ℕ). take m xs) n t ∙ take-append_seam c g.rest)
 
 -- a record ends within the bytes
 pub inside : {bytes : List ℕ} {i to k : ℕ} {b : List ℕ} → Framed bytes i to k b → past i b ≤ length bytes

@@ -5,6 +5,7 @@ ghost use Rattle.model.specs.Limits.{NameLimits};
 ghost use Rattle.stored.specs.declared.content.BodyError.TheVariants.{BadForm};
 ghost use Rattle.stored.specs.Contents.{BooleanForm, Positive, zero_body, DecimalForm, leaf_of, fault_at, ContentTold};
 
+use crate::header::Record;
 use record::kind::{RecordKind, SCALE, UnknownKind};
 use source::limits::LONGEST_NAME;
 use std::str::from_utf8;
@@ -29,6 +30,7 @@ pub enum BodyError {
     LongNumber,
 }
 
+// By hand: a derived `From` does not promise which case it gives.
 impl From<UnknownKind> for BodyError {
     ghost from_gives = { λ _ e. e ≡ BadForm };
 
@@ -114,20 +116,25 @@ fn leaf(good: bool) -> Result<Content, BodyError>
     good.then_some(Content::Leaf).ok_or(BodyError::BadForm)
 }
 
-// What a record holds, by the number of its kind and its body.
-pub fn holds(kind: u8, body: &[u8]) -> Result<Content, BodyError>
-    ensures { ContentTold kind body.now result }
-{
-    match RecordKind::try_from(kind)? {
-        RecordKind::Null => leaf(body.is_empty()),
-        RecordKind::Boolean => leaf(boolean_form(body)),
-        RecordKind::Whole if body.len() > LONGEST_NUMBER => Err(BodyError::LongNumber),
-        RecordKind::Whole => leaf(whole_form(body)),
-        RecordKind::Decimal if body.len() > SCALE + LONGEST_NUMBER => Err(BodyError::LongNumber),
-        RecordKind::Decimal => leaf(decimal_form(body)),
-        RecordKind::String => leaf(text_form(body)),
-        RecordKind::List => Ok(Content::List),
-        RecordKind::Object => Ok(Content::Object),
-        RecordKind::Name => Err(BodyError::BadForm),
+impl Record<'_> {
+    // What it holds.
+    pub fn content(self) -> Result<Content, BodyError>
+        ensures { ContentTold self.entry.kind self.entry.body.now result }
+    {
+        let body = self.body;
+        match RecordKind::try_from(self.kind)? {
+            RecordKind::Null => leaf(body.is_empty()),
+            RecordKind::Boolean => leaf(boolean_form(body)),
+            RecordKind::Whole if body.len() > LONGEST_NUMBER => Err(BodyError::LongNumber),
+            RecordKind::Whole => leaf(whole_form(body)),
+            RecordKind::Decimal if body.len() > SCALE + LONGEST_NUMBER => Err(
+                BodyError::LongNumber,
+            ),
+            RecordKind::Decimal => leaf(decimal_form(body)),
+            RecordKind::String => leaf(text_form(body)),
+            RecordKind::List => Ok(Content::List),
+            RecordKind::Object => Ok(Content::Object),
+            RecordKind::Name => Err(BodyError::BadForm),
+        }
     }
 }

@@ -6,24 +6,22 @@ ghost use Rattle.model.specs.Coercion.{member as member_of};
 ghost use Rattle.text.specs.declared.language.Language.TheVariants.{Json as JsonLanguage};
 ghost use Rattle.source.specs.Heads.{flag_of, text_of};
 ghost use Rattle.source.specs.Standing.{Found, Scaled};
-ghost use Rattle.stored.specs.Cursors.{Leads, Held, HeldAll, HeldMems, Named, TargetTold, FollowTold, OfRecord, kind_for_lem};
+ghost use Rattle.stored.specs.Cursors.{Leads, Held, HeldAll, HeldMems, Named, TargetTold, FollowTold, OfRecord, kind_numbered};
 ghost use Rattle.stored.specs.Past.{past_at};
 ghost use Rattle.stored.specs.Laws.{StoredTold, ReadsOnce, ReadsBack, AcceptsBack};
 ghost use Rattle.stored.specs.OneTree.{lawful};
 
-use crate::header::{Frame, header, valued};
+use crate::header::Record;
 use crate::reading::Reader;
 use names::names::Names;
 use record::kind::{RecordKind, SCALE};
+use record::limits::LONGEST_SHEET;
 use source::limits::DEEPEST;
 use source::raw::{Kind, Source, Span};
 use std::alloc::Global;
 use text::decimal::Scale;
 use text::fault::Fault;
 use text::language::Language;
-
-// The most bytes of a sheet.
-const LONGEST_SHEET: usize = 65536;
 
 // The bytes of a sheet that were found to be in order.
 #[derive(Clone, Copy)]
@@ -41,21 +39,21 @@ struct Target<'a> {
 }
 
 impl<'a> Target<'a> {
-    // The record at `place`, if its frame has a kind.
-    fn new(place: usize, frame: Frame<'a>) -> Option<Target<'a>>
-        ensures { TargetTold place frame.entry result }
+    // The record at `place`, if its number is that of a kind.
+    fn new(place: usize, found: Record<'a>) -> Option<Target<'a>>
+        ensures { TargetTold place found.entry result }
     {
-        let kind = RecordKind::try_from(frame.kind).ok()?;
+        let kind = RecordKind::try_from(found.kind).ok()?;
         Some(Target {
             place,
             kind,
-            from: frame.from,
-            body: frame.body,
+            from: found.from,
+            body: found.body,
         })
     }
 
     fn kind(self) -> Kind
-        ensures { result ≡ kind_for_lem (number_of self.entry.kind) }
+        ensures { result ≡ kind_numbered (number_of self.entry.kind) }
     {
         match self.kind {
             RecordKind::Boolean => Kind::Boolean,
@@ -115,8 +113,8 @@ impl<'a> Stored<'a> {
                 body: bytes,
             });
         }
-        let (place, frame) = valued(bytes, at, bytes.len())?;
-        Target::new(place, frame)
+        let (place, record) = Record::valued(bytes, at, bytes.len())?;
+        Target::new(place, record)
     }
 }
 
@@ -171,10 +169,10 @@ impl Source for Stored<'_> {
         match self.follow(at) {
             Some(
                 Target {
-                    place: _,
                     kind: RecordKind::List | RecordKind::Object,
                     from,
                     body,
+                    ..
                 },
             ) => Span {
                 from,
@@ -186,21 +184,20 @@ impl Source for Stored<'_> {
 
     fn next(&self, span: Span) -> Option<(usize, Span)> {
         let Span { from, to } = span;
-        let (_, frame) = valued(self.bytes, from, to)?;
+        let (_, record) = Record::valued(self.bytes, from, to)?;
         Some((
             from,
             Span {
-                from: frame.end,
+                from: record.end(),
                 to,
             },
         ))
     }
 
     fn name(&self, at: usize) -> &[u8] {
-        match header(self.bytes, at, self.bytes.len()) {
-            Some(frame) => frame.body,
-            None => &[],
-        }
+        Record::at(self.bytes, at, self.bytes.len())
+            .map(|record| record.body)
+            .unwrap_or_default()
     }
 }
 

@@ -1,11 +1,11 @@
 -- The bytes of a text from a place on.
 use Rattle.std.proofs.Common.{◌≡◌, ◌==◌, Bool, true, false, take, ℕ, zero, suc, ◌+◌, ◌-◌, ◌<◌, ◌≤◌, List, [], ◌∷◌, ◌++◌, length, get_or, drop, sym, ap, ◌∙◌, subst, arith, length-append, length-drop}
-use Rattle.std.proofs.lemmas.List.{drop_all, drop_more, take-append-drop, drop-drop, length-take-le, take_rest}
+use Rattle.std.proofs.lemmas.List.{get_or-drop, drop_all, drop_more, take-append-drop, drop-drop, length-take-le, take_rest}
 use Rattle.std.proofs.lemmas.Bool.Decides.{Decides-eqb}
 use Rattle.std.proofs.lemmas.Slice.Eq.{starts_is}
 use Rattle.std.specs.List.{starts_with}
 use Rattle.text.specs.TokenGrammar.{NotAhead}
-use Rattle.text.specs.Cuts.{part}
+use Rattle.text.specs.Cuts.{part, Front}
 
 pub there : (text : List ℕ) (i : ℕ) → i < length text → drop i text ≡ get_or text i 0 ∷ drop (i + 1) text
 there text i h = drop_more text i 0 h
@@ -53,6 +53,24 @@ along P i j h p step =
 
 pub torn : {b : Bool} → b ≡ true → b ≡ false → ⊥
 torn t f = let z : ◌≡◌ {A = ℕ} 0 1 = cc in omega arith
+
+-- the test is true of each byte from i on, before j, and false of the byte at j, if there is one
+pub record RunTo (Tests : ℕ → Bool → Type 0) (text : List ℕ) (i j : ℕ) : Type 0 where
+  pub forward : i ≤ j
+  pub within : j ≤ length text
+  pub all : (k : ℕ) → i ≤ k → k < j → Tests (get_or text k 0) true
+  pub stops : j < length text → Tests (get_or text j 0) false
+
+pub run_from : (Tests : ℕ → Bool → Type 0) (text : List ℕ) (i n : ℕ) → i ≤ length text → Front Tests (part text i (length text)) n → RunTo Tests text i (i + n)
+run_from Tests text i n h r =
+    let size = length_part text i (length text) (omega arith) in
+    let at : (k : ℕ) → get_or (part text i (length text)) k 0 ≡ get_or text (i + k) 0 = λ k. ap (λ l. get_or l k 0) (take_rest text i) ∙ get_or-drop i text k 0 in
+    record {
+      forward = omega arith;
+      within = omega (arith, r.within);
+      all = λ k p q. let there : i + (k - i) ≡ k = omega arith in subst (λ b. Tests b true) (at (k - i) ∙ ap (λ m. get_or text m 0) there) (r.all (k - i) (omega arith));
+      stops = λ l. subst (λ b. Tests b false) (at n) (r.stops (omega arith));
+    }
 
 -- what `starts_with` says of the text from a place on
 module _ (text word : List ℕ) (i : ℕ) {r : Bool} (m : r ≡ starts_with ◌==◌ (take (length text - i) (drop i text)) word) where

@@ -9,7 +9,7 @@ use Rattle.text.specs.TokenGrammar.{NotAhead, Numeral, NumberFirst, NumberGoesOn
 use Rattle.text.specs.TokenFound.{NameEnd, View, v_mark, v_name, v_number, v_text, v_end, Holds, TokenAt, NoToken, LongAt}
 use Rattle.text.proofs.ScanRuns.{part_more}
 use Rattle.text.proofs.LexBase.{there, gone, first, cut, length_part, not_ahead}
-use Rattle.text.proofs.LexNumber.{begins_number_lem, nil_number, number_found, found_numeral, one_found, found_long, found_unfinished, long_unfinished, long_first, long_inside, found_first, stops_number}
+use Rattle.text.proofs.LexNumber.{numeral_first, nil_number, number_found, found_numeral, one_found, found_long, found_unfinished, long_unfinished, long_first, long_inside, found_first, stops_number}
 use Rattle.text.proofs.LexIgnored.{low_char}
 use Rattle.text.specs.Cuts.{part}
 
@@ -51,8 +51,8 @@ one_punctuator p_close_brace p_close_brace = refl
 mark_name : (b : ℕ) → IsPunctuator b → NameStart b → ⊥
 mark_name b p q = grind (arith, p, q)
 
-mark_number_lem : (b : ℕ) → IsPunctuator b → NumberFirst b → ⊥
-mark_number_lem b p q = grind (arith, p, q)
+mark_no_number : (b : ℕ) → IsPunctuator b → NumberFirst b → ⊥
+mark_no_number b p q = grind (arith, p, q)
 
 mark_quote : IsPunctuator 34 → ⊥
 mark_quote p = grind (arith, p)
@@ -84,7 +84,7 @@ by_mark : {b : ℕ} {t r : List ℕ} {x : Lexical} {m : Mark} → Punctuator b m
 by_mark s (graphql_mark q) = (ap a_mark (one_punctuator s q), refl)
 by_mark s graphql_spread = absurd (mark_point (is_punctuator s))
 by_mark {b} s (graphql_name f p e a l) = absurd (mark_name b (is_punctuator s) f)
-by_mark {b} s (graphql_number {r = r} n e l) = absurd (mark_number_lem b (is_punctuator s) (begins_number_lem r n e))
+by_mark {b} s (graphql_number {r = r} n e l) = absurd (mark_no_number b (is_punctuator s) (numeral_first r n e))
 by_mark s (graphql_empty n) = absurd (mark_quote (is_punctuator s))
 by_mark s (graphql_string q) = absurd (mark_quote (is_punctuator s))
 
@@ -92,18 +92,18 @@ by_point : {t r : List ℕ} {x : Lexical} → GraphqlToken (46 ∷ t) x r → (a
 by_point (graphql_mark q) = absurd (mark_point (is_punctuator q))
 by_point graphql_spread = (refl, refl)
 by_point (graphql_name f p e a l) = absurd (name_point f)
-by_point (graphql_number {r = r} n e l) = absurd (number_point (begins_number_lem r n e))
+by_point (graphql_number {r = r} n e l) = absurd (number_point (numeral_first r n e))
 
 by_name : {b : ℕ} {t r : List ℕ} {x : Lexical} → NameStart b → GraphqlToken (b ∷ t) x r → (bs : List ℕ) × NameRest bs × (t ≡ bs ++ r) × NotAhead NameContinue r × (length (b ∷ bs) ≤ 127) × (a_name (b ∷ bs) ≡ x)
 by_name {b} s (graphql_mark q) = absurd (mark_name b (is_punctuator q) s)
 by_name s graphql_spread = absurd (name_point s)
 by_name s (graphql_name {bs = bs} f p e a l) = (bs, p, e, a, l, refl)
-by_name {b} s (graphql_number {r = r} n e l) = absurd (name_number b s (begins_number_lem r n e))
+by_name {b} s (graphql_number {r = r} n e l) = absurd (name_number b s (numeral_first r n e))
 by_name s (graphql_empty n) = absurd (name_quote s)
 by_name s (graphql_string q) = absurd (name_quote s)
 
 by_number : {b : ℕ} {t r : List ℕ} {x : Lexical} → NumberFirst b → GraphqlToken (b ∷ t) x r → (k : NumberKind) × (ds : List ℕ) × Numeral ds k × (b ∷ t ≡ ds ++ r) × NotAhead NumberGoesOn r × (a_number k ds ≡ x)
-by_number {b} s (graphql_mark q) = absurd (mark_number_lem b (is_punctuator q) s)
+by_number {b} s (graphql_mark q) = absurd (mark_no_number b (is_punctuator q) s)
 by_number s graphql_spread = absurd (number_point s)
 by_number {b} s (graphql_name f p e a l) = absurd (name_number b f s)
 by_number s (graphql_number {ds = ds} {kind = k} n e l) = (k, ds, n, e, l, refl)
@@ -113,7 +113,7 @@ by_number s (graphql_string q) = absurd (number_quote s)
 by_quote : {t r : List ℕ} {x : Lexical} → GraphqlToken (34 ∷ t) x r → (cs : List ℕ) × Reads Graphql t cs r × (a_string cs ≡ x)
 by_quote (graphql_mark q) = absurd (mark_quote (is_punctuator q))
 by_quote (graphql_name f p e a l) = absurd (name_quote f)
-by_quote (graphql_number {r = r} n e l) = absurd (number_quote (begins_number_lem r n e))
+by_quote (graphql_number {r = r} n e l) = absurd (number_quote (numeral_first r n e))
 by_quote (graphql_empty n) = ([], none, refl)
 by_quote (graphql_string {cs = cs} {c = c} q) = (c ∷ cs, q, refl)
 
@@ -121,7 +121,7 @@ by_other : {b : ℕ} {t r : List ℕ} {x : Lexical} → ((m : Mark) → Punctuat
 by_other p n f q d (graphql_mark {m = m} z) = p m z
 by_other p n f q d graphql_spread = d refl
 by_other p n f q d (graphql_name s w e a l) = n s
-by_other {r = r} p n f q d (graphql_number m e l) = f (begins_number_lem r m e)
+by_other {r = r} p n f q d (graphql_number m e l) = f (numeral_first r m e)
 by_other p n f q d (graphql_empty m) = q refl
 by_other p n f q d (graphql_string m) = q refl
 
@@ -136,7 +136,7 @@ no_run (more d k) = quote_char d
 by_block : {t r : List ℕ} {x : Lexical} → GraphqlToken (34 ∷ 34 ∷ 34 ∷ t) x r → ⊥
 by_block (graphql_mark q) = mark_quote (is_punctuator q)
 by_block (graphql_name f p e a l) = name_quote f
-by_block (graphql_number {r = r} n e l) = number_quote (begins_number_lem r n e)
+by_block (graphql_number {r = r} n e l) = number_quote (numeral_first r n e)
 by_block {t} (graphql_empty n) = n 34 t refl refl
 by_block (graphql_string q) = no_run q
 

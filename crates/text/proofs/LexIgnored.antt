@@ -174,8 +174,8 @@ module _ (text : List ℕ) (i : ℕ) where
         let o = there text i h ∙ ap (λ n. n ∷ drop (i + 1) text) b in
         subst (λ l. Comment l r) (sym o) (by_comment (subst (λ l. GraphqlIgnored l r) o q))
 
-    is_mark_lem : get_or text i 0 ≡ 239 → (r : List ℕ) → GraphqlIgnored (drop i text) r → ByteOrderMark (drop i text) r
-    is_mark_lem b r q =
+    only_mark : get_or text i 0 ≡ 239 → (r : List ℕ) → GraphqlIgnored (drop i text) r → ByteOrderMark (drop i text) r
+    only_mark b r q =
         let o = there text i h ∙ ap (λ n. n ∷ drop (i + 1) text) b in
         subst (λ l. ByteOrderMark l r) (sym o) (by_bom (subst (λ l. GraphqlIgnored l r) o q))
 
@@ -184,5 +184,5 @@ module _ (text : List ℕ) (i : ℕ) where
     comment_told b (Some j) p = record { forward = p.forward; within = p.within; reads = ignored_comment p.reads; only = λ r q. p.only r (is_comment b r q) }
 
     pub mark_told : get_or text i 0 ≡ 239 → (o : Option ℕ) → StepTold ByteOrderMark text i o → StepTold GraphqlIgnored text i o
-    mark_told b None n = λ r q. n r (is_mark_lem b r q)
-    mark_told b (Some j) p = record { forward = p.forward; within = p.within; reads = unicode_bom p.reads; only = λ r q. p.only r (is_mark_lem b r q) }
+    mark_told b None n = λ r q. n r (only_mark b r q)
+    mark_told b (Some j) p = record { forward = p.forward; within = p.within; reads = unicode_bom p.reads; only = λ r q. p.only r (only_mark b r q) }

@@ -10,15 +10,15 @@ use Rattle.text.specs.StringDecode.{Scanned, Nothing}
 use Rattle.text.specs.TokenGrammar.{NotAhead, Numeral, NumberFirst, Mark, Lexical, a_mark, a_name, a_number, a_string, the_end, WhiteSpace, JsonIgnored, white_space_rule, Structural, begin_array, begin_object, end_array, end_object, name_separator, value_separator, LiteralName, false_name, null_name, true_name, JsonToken, json_end, json_mark, json_literal, json_number, json_string}
 use Rattle.text.specs.TokenFound.{View, v_mark, v_name, v_number, v_text, v_end, Holds, StepAt, TokenAt, NoToken, LongAt}
 use Rattle.text.proofs.LexBase.{there, gone, cut}
-use Rattle.text.proofs.LexNumber.{begins_number_lem, nil_number, number_found, found_numeral, found_stops, one_found, found_long, found_unfinished, long_unfinished, long_first, long_inside, found_first}
+use Rattle.text.proofs.LexNumber.{numeral_first, nil_number, number_found, found_numeral, found_stops, one_found, found_long, found_unfinished, long_unfinished, long_first, long_inside, found_first}
 use Rattle.text.specs.Cuts.{part}
 
 -- white space
 space_here : {b : ℕ} {t r : List ℕ} → JsonIgnored (b ∷ t) r → WhiteSpace b × (t ≡ r)
 space_here (white_space_rule w) = (w, refl)
 
-no_space_lem : {r : List ℕ} → JsonIgnored [] r → ⊥
-no_space_lem i = elim i [ ]
+nil_no_space : {r : List ℕ} → JsonIgnored [] r → ⊥
+nil_no_space i = elim i [ ]
 
 pub space_step : (text : List ℕ) (i : ℕ) → i < length text → WhiteSpace (get_or text i 0) → StepAt JsonIgnored text i (i + 1)
 space_step text i h w = record {
@@ -31,7 +31,7 @@ space_step text i h w = record {
 pub space_stops : (text : List ℕ) (i : ℕ) → (i < length text → WhiteSpace (get_or text i 0) → ⊥) → (r : List ℕ) → JsonIgnored (drop i text) r → ⊥
 space_stops text i n r j = ⊎_elim
     (λ h. n h (space_here (subst (λ l. JsonIgnored l r) (there text i h) j)).0)
-    (λ h. no_space_lem (subst (λ l. JsonIgnored l r) (gone text i h) j))
+    (λ h. nil_no_space (subst (λ l. JsonIgnored l r) (gone text i h) j))
     (cases_lt i (length text))
 
 -- structural characters
@@ -101,13 +101,13 @@ by_nil (json_number {r = r} n e l) = absurd (nil_number r n e)
 by_mark : {b : ℕ} {t r : List ℕ} {x : Lexical} {m : Mark} → Structural b m → JsonToken (b ∷ t) x r → (a_mark m ≡ x) × (t ≡ r)
 by_mark s (json_mark q) = (ap a_mark (one_structural s q), refl)
 by_mark {b} s (json_literal {r = r} w e) = absurd (structural_letter b (is_structural s) (begins_literal r w e))
-by_mark {b} s (json_number {r = r} n e l) = absurd (structural_number b (is_structural s) (begins_number_lem r n e))
+by_mark {b} s (json_number {r = r} n e l) = absurd (structural_number b (is_structural s) (numeral_first r n e))
 by_mark s (json_string q) = absurd (quote_structural (is_structural s))
 
 by_quote : {t r : List ℕ} {x : Lexical} → JsonToken (34 ∷ t) x r → (cs : List ℕ) × Reads Json t cs r × (a_string cs ≡ x)
 by_quote (json_mark q) = absurd (quote_structural (is_structural q))
 by_quote (json_literal {r = r} w e) = absurd (quote_letter (begins_literal r w e))
-by_quote (json_number {r = r} n e l) = absurd (quote_number (begins_number_lem r n e))
+by_quote (json_number {r = r} n e l) = absurd (quote_number (numeral_first r n e))
 by_quote (json_string {cs = cs} q) = (cs, q, refl)
 
 by_number : {b : ℕ} {t r : List ℕ} {x : Lexical} → NumberFirst b → JsonToken (b ∷ t) x r → (k : NumberKind) × (ds : List ℕ) × Numeral ds k × (b ∷ t ≡ ds ++ r) × NotAhead (λ a. Begins (ds ++ a ∷ [])) r × (a_number k ds ≡ x)
@@ -136,13 +136,13 @@ is_letter true_name e = inr (inr e)
 by_literal : {b : ℕ} {t r v : List ℕ} {x : Lexical} → LiteralName v → b ≡ get_or v 0 0 → JsonToken (b ∷ t) x r → (b ∷ t ≡ v ++ r) × (a_name v ≡ x)
 by_literal {b} v g (json_mark q) = absurd (structural_letter b (is_structural q) (is_letter v g))
 by_literal {r = r} v g (json_literal w e) = let s = one_literal r v w g e in (e ∙ ap (λ l. l ++ r) (sym s), ap a_name s)
-by_literal {b} {r = r} v g (json_number n e l) = absurd (number_letter b (begins_number_lem r n e) (is_letter v g))
+by_literal {b} {r = r} v g (json_number n e l) = absurd (number_letter b (numeral_first r n e) (is_letter v g))
 by_literal v g (json_string q) = absurd (quote_letter (is_letter v g))
 
 by_other : {b : ℕ} {t r : List ℕ} {x : Lexical} → ((m : Mark) → Structural b m → ⊥) → b ≢ 34 → (NumberFirst b → ⊥) → (IsLetter b → ⊥) → JsonToken (b ∷ t) x r → ⊥
 by_other s q f l (json_mark {m = m} p) = s m p
 by_other {r = r} s q f l (json_literal w e) = l (begins_literal r w e)
-by_other {r = r} s q f l (json_number n e a) = f (begins_number_lem r n e)
+by_other {r = r} s q f l (json_number n e a) = f (numeral_first r n e)
 by_other s q f l (json_string p) = q refl
 
 append_same : (xs : List ℕ) {ys zs : List ℕ} → xs ++ ys ≡ xs ++ zs → ys ≡ zs

@@ -15,7 +15,7 @@ use Rattle.text.specs.NumberScan.{Begins, Found, Unfinished, ScanRefused}
 use Rattle.text.specs.TokenGrammar.{NotAhead, Numeral, NumberFirst, NumberGoesOn}
 use Rattle.text.specs.TokenFound.{LongAt, NoToken, RefusedHere}
 use Rattle.text.proofs.ScanRuns.{complete, refused, Ends, zero_ends, int_ends, frac_ends, exp_ends, part_more}
-use Rattle.text.proofs.ScanLaws.{one_scan_lem}
+use Rattle.text.proofs.ScanLaws.{scans_once}
 use Rattle.text.proofs.LexBase.{there, first, cut, length_part, front}
 use Rattle.text.specs.Cuts.{part}
 
@@ -31,8 +31,8 @@ pub number_some : {ds : List ℕ} {k : NumberKind} → Number ds k → 0 < lengt
 number_some n = let x = number_first n in omega (arith, ap length x.2)
 
 -- a list that begins with a number
-pub begins_number_lem : {b : ℕ} {t ds : List ℕ} {k : NumberKind} (r : List ℕ) → Numeral ds k → b ∷ t ≡ ds ++ r → NumberFirst b
-begins_number_lem {b} {t} {ds} r n e =
+pub numeral_first : {b : ℕ} {t ds : List ℕ} {k : NumberKind} (r : List ℕ) → Numeral ds k → b ∷ t ≡ ds ++ r → NumberFirst b
+numeral_first {b} {t} {ds} r n e =
     let x = number_first n.number in
     let f : b ∷ t ≡ x.0 ∷ (x.1 ++ r) = e ∙ ap (λ l. l ++ r) x.2 in
     let g : x.0 ≡ b = cc in
@@ -90,23 +90,23 @@ found_stops {text} {at} {end} f b t e g =
 -- two numbers that are found at one place are one
 pub one_found : {text : List ℕ} {at i j : ℕ} {k l : NumberKind} → Found text at i k → Found text at j l → (i ≡ j) × (k ≡ l)
 one_found {text} {at} {i} {j} {k} {l} f g =
-    let e = one_scan_lem text at (Ok (i, k)) (Ok (j, l)) f g in
+    let e = scans_once text at (Ok (i, k)) (Ok (j, l)) f g in
     let p : ◌≡◌ {A = ℕ × NumberKind} (i, k) (j, l) = cc in
     (ap (λ x. x.0) p, ap (λ x. x.1) p)
 
 pub found_long : {text : List ℕ} {at i : ℕ} {k : NumberKind} → Found text at i k → LongAt text at → ⊥
 found_long {text} {at} {i} {k} f g =
-    let e = one_scan_lem text at (Ok (i, k)) (Err (LongNumber at)) f (refl, g) in
+    let e = scans_once text at (Ok (i, k)) (Err (LongNumber at)) f (refl, g) in
     let z : ◌≡◌ {A = ℕ} 0 1 = cc in omega arith
 
 pub found_unfinished : {text : List ℕ} {at i : ℕ} {k : NumberKind} → Found text at i k → Unfinished text at → ⊥
 found_unfinished {text} {at} {i} {k} f g =
-    let e = one_scan_lem text at (Ok (i, k)) (Err (BadText at)) f (refl, g) in
+    let e = scans_once text at (Ok (i, k)) (Err (BadText at)) f (refl, g) in
     let z : ◌≡◌ {A = ℕ} 0 1 = cc in omega arith
 
 pub long_unfinished : {text : List ℕ} {at : ℕ} → LongAt text at → Unfinished text at → ⊥
 long_unfinished {text} {at} f g =
-    let e = one_scan_lem text at (Err (LongNumber at)) (Err (BadText at)) (refl, f) (refl, g) in
+    let e = scans_once text at (Err (LongNumber at)) (Err (BadText at)) (refl, f) (refl, g) in
     let z : ◌≡◌ {A = ℕ} 0 1 = cc in omega arith
 
 -- the first byte of a long number
@@ -161,7 +161,7 @@ outside b n = ⊎_elim (λ h. inl h) (λ h. ⊎_elim (λ g. inr g) (λ g. absurd
 pub stops_number : {ds r : List ℕ} {k : NumberKind} → Number ds k → NotAhead NumberGoesOn r → NotAhead (λ b. Begins (ds ++ b ∷ [])) r
 stops_number {ds} n q b t e g =
     let c = complete n in
-    refused ds b c.0 _ c.1
+    refused ds b c.0 c.1
     (dead c.2 b
     (λ x. q b t e (inr (inl x)))
     (λ x. q b t e (inr (inr (inr (inr (omega arith, omega arith))))))

@@ -9,6 +9,7 @@ pub mod StrHexes
 pub mod StrCodes
 pub mod StrChars
 pub mod StrRuns
+pub mod Handed
 pub mod LexBase
 pub mod LexSkip
 pub mod LexTold

@@ -1,12 +1,9 @@
 -- Where the runs of digits of a number end.
-use Rattle.std.proofs.Common.{◌≡◌, ℕ, ◌+◌, ◌-◌, ◌<◌, Bool, true, false, ◌≢◌, List, [], ◌∷◌, ◌++◌, length, get_or, take, drop, ℤ, sym, refl, ap, ◌∙◌, subst, ⊎_elim, arith, length-append, length-drop}
-use Rattle.std.proofs.lemmas.Bool.{cases_lt}
-use Rattle.std.proofs.lemmas.List.{get_or-drop, get_or_append_left, get_or-append-add, take_at, drop_at, drop-drop, get_or-take, length-take-le}
+use Rattle.std.proofs.Common.{◌≡◌, ℕ, suc, ◌+◌, ◌<◌, ◌≤◌, Bool, Bor, true, false, ◌≢◌, List, [], ◌∷◌, ◌++◌, length, get_or, take, drop, ℤ, sym, refl, ap, ◌∙◌, subst, arith, length-append, length-drop}
+use Rattle.std.proofs.lemmas.List.{take-append-drop, get_or-take, get_or-drop, length-take-le}
 use Rattle.text.specs.NumberGrammar.{IsDigit, Digits, none, digit, IsInt, zero_int, int, IsMark, small_e, great_e}
 use Rattle.text.specs.NumberWorth.{Power, no_power, plain, more, less, Fraction, no_fraction, fraction, Minus, no_minus, one_minus}
-use Rattle.text.specs.NormalForm.{Each, DigitsTo, Split, Signs}
-use Rattle.text.proofs.NormValues.{each_of}
-use Rattle.text.specs.Cuts.{part}
+use Rattle.text.specs.NormalForm.{Each, DigitsFirst, Split, Signs}
 
 -- the bytes begin with no digit
 abbrev pub Stops : List ℕ → Type 0
@@ -30,39 +27,20 @@ pub int_digits : {i : List ℕ} → IsInt i → Digits i
 int_digits zero_int = digit (omega arith, omega arith) none
 int_digits (int h k r) = digit (omega arith, omega arith) r
 
--- a run of digits is those that the grammar has there
-pub cut : {text : List ℕ} {s p : ℕ} (i t : List ℕ) → DigitsTo text s p → drop s text ≡ i ++ t → Digits i → Stops t → p - s ≡ length i
-cut {text} {s} {p} i t d e w stop =
-    let long : length i + length t ≡ length text - s = sym (length-append i t) ∙ sym (ap length e) ∙ length-drop s text in
-    let at : (k : ℕ) → get_or text (s + k) 0 ≡ get_or (i ++ t) k 0 = λ k. sym (get_or-drop s text k 0) ∙ ap (λ l. get_or l k 0) e in
-    ⊎_elim
-    (λ lt.
-    let there : s + (p - s) ≡ p = omega (arith, d.forward) in
-    let here : get_or text p 0 ≡ get_or i (p - s) 0 = ap (λ n. get_or text n 0) (sym there) ∙ at (p - s) ∙ get_or_append_left i t 0 (p - s) lt in
-    absurd (d.stops (omega (arith, d.forward)) (subst IsDigit (sym here) (each_of w (p - s) lt))))
-    (λ ge. ⊎_elim
-    (λ gt.
-    let zero-at : length i + 0 ≡ length i = omega arith in
-    let here : get_or text (s + length i) 0 ≡ get_or t 0 0 = at (length i) ∙ ap (λ n. get_or (i ++ t) n 0) (sym zero-at) ∙ get_or-append-add i t 0 0 in
-    absurd (stop (omega (arith, d.within)) (subst IsDigit here (d.all (s + length i) (omega arith) (omega arith)))))
-    (λ le. omega arith)
-    (cases_lt (length i) (p - s)))
-    (cases_lt (p - s) (length i))
+-- bytes of which each is a digit are digits
+pub each_digits : (ds : List ℕ) → Each ds → Digits ds
+each_digits [] e = none
+each_digits (d ∷ ds) e = digit (e 0 (omega arith)) (each_digits ds (λ k h. e (suc k) (omega arith)))
 
-pub cut_parts : {text : List ℕ} {s p : ℕ} (i t : List ℕ) → DigitsTo text s p → drop s text ≡ i ++ t → Digits i → Stops t → (part text s p ≡ i) × (drop p text ≡ t)
-cut_parts {text} {s} {p} i t d e w stop =
-    let n = cut i t d e w stop in
-    let there : s + (p - s) ≡ p = omega (arith, d.forward) in (
-      ap (take (p - s)) e ∙ take_at i t (p - s) (sym n),
-      ap (λ k. drop k text) (sym there) ∙ sym (drop-drop (p - s) s text) ∙ ap (drop (p - s)) e ∙ drop_at i t (p - s) (sym n),
-    )
-
--- the digits that a run has found are digits
-pub run_each : {text : List ℕ} {s p : ℕ} → DigitsTo text s p → Each (part text s p)
-run_each {text} {s} {p} d k h =
-    let long : length (part text s p) ≡ p - s = length-take-le (p - s) (drop s text) (omega (arith, length-drop s text, d.within)) in
-    let here : get_or (part text s p) k 0 ≡ get_or text (s + k) 0 = get_or-take (p - s) (drop s text) k 0 (omega arith) ∙ get_or-drop s text k 0 in
-    subst IsDigit (sym here) (d.all (s + k) (omega arith) (omega (arith, d.forward)))
+-- the digits at the front of the text, where the first n bytes are digits and the next is none
+pub run_first : (text : List ℕ) (n : ℕ) → n ≤ length text → ((k : ℕ) → k < n → IsDigit (get_or text k 0)) → (n < length text → IsDigit (get_or text n 0) → ⊥) → DigitsFirst text (take n text) (drop n text)
+run_first text n h all stop =
+    let here : get_or (drop n text) 0 0 ≡ get_or text n 0 = get_or-drop n text 0 0 ∙ ap (λ k. get_or text k 0) (let z : n + 0 ≡ n = omega arith in z) in
+    record {
+      spelled = sym (take-append-drop n text);
+      each = λ k l. subst IsDigit (sym (get_or-take n text k 0 (omega (arith, length-take-le n text h)))) (all k (omega (arith, length-take-le n text h)));
+      stops = λ l d. stop (omega (arith, length-drop n text)) (subst IsDigit here d);
+    }
 
 mark_apart : {e : ℕ} → IsMark e → e ≡ 46 → ⊥
 mark_apart small_e d = omega arith
@@ -90,47 +68,54 @@ pub no_point : {f ds : List ℕ} (e xs : List ℕ) → Fraction f ds → ((r : L
 no_point e xs no_fraction n h = (refl, h)
 no_point e xs (fraction {d} {ds} a r) n h = absurd (n (d ∷ ds ++ e) h)
 
-pub split_point : (text : List ℕ) (start point mark : ℕ) → DigitsTo text start point → drop point text ≡ 46 ∷ drop (point + 1) text → DigitsTo text (point + 1) mark → Split text start (record { start = start; point = point; places = point + 1; mark = mark })
-split_point text start point mark d b r = record {
-  begins = refl;
-  first = d.forward;
-  second = omega arith;
-  third = r.forward;
-  within = r.within;
-  wholes = run_each d;
-  fracs = run_each r;
-  found = λ i f e ds q h w a p.
-      let c = cut_parts i (f ++ e) d h (int_digits w) (stops_both a p) in
-      let y = with_point (drop (point + 1) text) a p (sym b ∙ c.1) in
-      let z = cut_parts ds e r y.1 y.0 (stops_power p) in
-      (c.0, z.0, z.1);
-}
+-- digits, and what follows with no digit first, are told apart
+pub digits_cut : {i j : List ℕ} (t u : List ℕ) → Digits i → Digits j → Stops t → Stops u → i ++ t ≡ j ++ u → (i ≡ j) × (t ≡ u)
+digits_cut t u none none s r e = (refl, e)
+digits_cut t u none (digit d w) s r e = absurd (s (omega (arith, ap length e)) (subst IsDigit (sym (ap (λ l. get_or l 0 0) e)) d))
+digits_cut t u (digit d w) none s r e = absurd (r (omega (arith, ap length e)) (subst IsDigit (ap (λ l. get_or l 0 0) e) d))
+digits_cut t u (digit d w) (digit c v) s r e =
+    let rest = digits_cut t u w v s r (ap tail e) in
+    let same = ap head e in
+    ((λ k. same k ∷ rest.0 k), rest.1)
 
-pub split_none : (text : List ℕ) (start point : ℕ) → DigitsTo text start point → ((r : List ℕ) → drop point text ≡ 46 ∷ r → ⊥) → Split text start (record { start = start; point = point; places = point; mark = point })
-split_none text start point d n =
-    let nothing : part text point point ≡ [] = let z : point - point ≡ 0 = omega arith in ap (λ k. take k (drop point text)) z in
-    record {
-      begins = refl;
-      first = d.forward;
-      second = omega arith;
-      third = omega arith;
-      within = d.within;
-      wholes = run_each d;
-      fracs = λ k h. absurd (omega (arith, ap length nothing));
-      found = λ i f e ds q h w a p.
-          let c = cut_parts i (f ++ e) d h (int_digits w) (stops_both a p) in
-          let y = no_point e (drop point text) a n c.1 in
-          (c.0, nothing ∙ sym y.0, y.1);
-    }
+-- the digits at the front are those that the grammar has there
+pub run_cut : {text ds rest : List ℕ} (i t : List ℕ) → DigitsFirst text ds rest → text ≡ i ++ t → Digits i → Stops t → (ds ≡ i) × (rest ≡ t)
+run_cut {text} {ds} {rest} i t d e w stop = digits_cut rest t (each_digits ds d.each) w d.stops stop (sym d.spelled ∙ e)
+
+module _ (text : List ℕ) (whole rest : Bor (List ℕ)) (w : DigitsFirst text whole.now rest.now) where
+  pub split_point : (places power : Bor (List ℕ)) (after : List ℕ) → rest.now ≡ 46 ∷ after → DigitsFirst after places.now power.now → Split text (record { whole = whole; places = places; power = power })
+  split_point places power after b r = record {
+    within = omega (arith, ap length w.spelled, length-append whole.now rest.now, ap length b, ap length r.spelled, length-append places.now power.now);
+    wholes = w.each;
+    fracs = r.each;
+    found = λ i f e ds q h v a p.
+        let c = run_cut i (f ++ e) w h (int_digits v) (stops_both a p) in
+        let y = with_point after a p (sym b ∙ c.1) in
+        let z = run_cut ds e r y.1 y.0 (stops_power p) in
+        (c.0, z.0, z.1);
+  }
+
+  pub split_none : (places power : Bor (List ℕ)) → places.now ≡ [] → power.now ≡ rest.now → ((r : List ℕ) → rest.now ≡ 46 ∷ r → ⊥) → Split text (record { whole = whole; places = places; power = power })
+  split_none places power o m n = record {
+    within = omega (arith, ap length w.spelled, length-append whole.now rest.now, ap length o);
+    wholes = w.each;
+    fracs = λ k h. absurd (omega (arith, ap length o));
+    found = λ i f e ds q h v a p.
+        let c = run_cut i (f ++ e) w h (int_digits v) (stops_both a p) in
+        let y = no_point e rest.now a n c.1 in
+        (c.0, o ∙ sym y.0, m ∙ y.1);
+  }
 
 -- the text after its minus
-pub unsigned_true : {text m r : List ℕ} {n : Bool} → Signs text true → Minus m n → text ≡ m ++ r → get_or r 0 0 ≢ 45 → (n ≡ true) × (drop 1 text ≡ r)
-unsigned_true s one_minus e w = (refl, ap (drop 1) e)
-unsigned_true {text} s no_minus e w = absurd (w (sym (ap (λ l. get_or l 0 0) e) ∙ s.1))
+pub minus_first : {text m r : List ℕ} {n neg : Bool} {rest : List ℕ} → Signs text neg rest → Minus m n → text ≡ m ++ r → get_or r 0 0 ≢ 45 → (n ≡ neg) × (rest ≡ r)
+minus_first {neg = true} s one_minus e w = (refl, ap tail (sym s ∙ e))
+minus_first {neg = true} s no_minus e w = absurd (w (sym (ap (λ l. get_or l 0 0) e) ∙ ap (λ l. get_or l 0 0) s))
+minus_first {neg = false} s no_minus e w = (refl, s.0 ∙ e)
+minus_first {r = r} {neg = false} s one_minus e w = absurd (s.1 r e)
 
-pub unsigned_false : {text m r : List ℕ} {n : Bool} → Signs text false → Minus m n → text ≡ m ++ r → (n ≡ false) × (drop 0 text ≡ r)
-unsigned_false s no_minus e = (refl, e)
-unsigned_false {text} s one_minus e = absurd (s (omega (arith, ap length e)) (ap (λ l. get_or l 0 0) e))
+pub minus_shorter : (text rest : List ℕ) (neg : Bool) → Signs text neg rest → length rest ≤ length text
+minus_shorter text rest true s = omega (arith, ap length s)
+minus_shorter text rest false s = omega (arith, ap length s.0)
 
 pub int_first : {i : List ℕ} (t : List ℕ) → IsInt i → get_or (i ++ t) 0 0 ≢ 45
 int_first t zero_int h = omega arith

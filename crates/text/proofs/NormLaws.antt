@@ -1,30 +1,19 @@
 -- Laws of what numbers write, and of their normal forms.
 use Rattle.std.proofs.Common.{◌≡◌, ℕ, zero, suc, ◌+◌, ◌-◌, ◌*◌, ◌^◌, ◌<◌, ◌≤◌, Bool, true, false, cond, eqb, ◌≢◌, List, [], ◌∷◌, ◌++◌, length, get_or, take, drop, replicate, ℤ, pos, ◌-ℤ◌, neg_ℤ, sym, refl, ap, ◌∙◌, subst, inl, inr, ⊎_elim, append-nil, mul_assoc, mul-pos, zero-mul, mul-one, mul_right_comm, arith, length-append, length-drop, pow-add}
+use lib.Seq.{take-append_seam}
 use native.Mathlib.Nat.{eq_of_mul-eq-mul_right, pow-succ'}
 use Rattle.std.proofs.lemmas.Bool.{cases_lt}
 use Rattle.std.proofs.lemmas.List.{take-append-drop, take_more, take_all, get_or-take, get_or-drop, length-take-le, get_or_append_left, length-replicate}
 use Rattle.std.proofs.lemmas.Int.{ints}
 use Rattle.text.specs.declared.number.NumberKind.TheVariants.{Whole}
 use Rattle.text.specs.declared.decimal.Scale.{Scale}
-use Rattle.text.specs.NumberGrammar.{IsDigit, Digits, none, digit, IsInt, zero_int, int, IsMark, Optional, without, with, IsMinus, minus, IsSign, sign_minus, sign_plus, IsFrac, frac, IsExp, exp, Number, kind_of}
+use Rattle.text.specs.NumberGrammar.{IsDigit, Digits, digit, IsInt, zero_int, int, IsMark, Optional, without, with, IsMinus, minus, IsSign, sign_minus, sign_plus, IsFrac, frac, IsExp, exp, Number, kind_of}
 use Rattle.text.specs.NumberWorth.{after, value, Power, no_power, plain, more, less, Fraction, no_fraction, fraction, Minus, no_minus, one_minus, Writes, Equal, SameWorth, below, NumbersWrite, WritersAreNumbers, WritesOnce, WorthIsEquivalence}
-use Rattle.text.specs.NormalForm.{Each, Form, form_zero, form, Normal, FormsAreUnique, EqualNumbersEqualForms, EqualFormsEqualNumbers, WholesAreUnique, WholeForm, whole_zero, whole_above, whole_below, WholeOf, WholeNormal, Signs, start_of, Trimmed}
-use Rattle.std.proofs.lemmas.List.{nil_from_length, take_rest}
-use Rattle.text.proofs.LexBase.{cut, length_part}
+use Rattle.text.specs.NormalForm.{Each, Form, form_zero, form, Normal, FormsAreUnique, EqualNumbersEqualForms, EqualFormsEqualNumbers, WholesAreUnique, WholeForm, whole_zero, whole_above, whole_below, WholeOf, WholeNormal, OfWhole, Signs, Trimmed}
+use Rattle.std.proofs.lemmas.List.{nil_from_length}
 use Rattle.text.proofs.NormValues.{after-append, after-ge, value-zeros, each_of, each_left, by_minus, by_plus, by_other, by_nothing, positive}
-use Rattle.text.proofs.NormCuts.{Stops, stops_power, stops_both, int_digits, head, tail, power_point, unsigned_true, unsigned_false, int_first}
+use Rattle.text.proofs.NormCuts.{stops_power, stops_both, int_digits, head, tail, power_point, digits_cut, minus_first, minus_shorter, int_first}
 use Rattle.text.proofs.NormSettle.{below_some, ten_pos, zero_same}
-use Rattle.text.specs.Cuts.{part}
-
--- digits, and what follows with no digit first, are told apart
-pub digits_cut : {i j : List ℕ} (t u : List ℕ) → Digits i → Digits j → Stops t → Stops u → i ++ t ≡ j ++ u → (i ≡ j) × (t ≡ u)
-digits_cut t u none none s r e = (refl, e)
-digits_cut t u none (digit d w) s r e = absurd (s (omega (arith, ap length e)) (subst IsDigit (sym (ap (λ l. get_or l 0 0) e)) d))
-digits_cut t u (digit d w) none s r e = absurd (r (omega (arith, ap length e)) (subst IsDigit (ap (λ l. get_or l 0 0) e) d))
-digits_cut t u (digit d w) (digit c v) s r e =
-    let rest = digits_cut t u w v s r (ap tail e) in
-    let same = ap head e in
-    ((λ k. same k ∷ rest.0 k), rest.1)
 
 minus_cut : {m k : List ℕ} {n o : Bool} (r s : List ℕ) → Minus m n → Minus k o → get_or r 0 0 ≢ 45 → get_or s 0 0 ≢ 45 → m ++ r ≡ k ++ s → (n ≡ o) × (r ≡ s)
 minus_cut r s no_minus no_minus a b e = (refl, e)
@@ -421,41 +410,46 @@ int_not_minus zero_int h = omega arith
 int_not_minus (int a b r) h = omega arith
 
 -- the digits after the minus
-after_minus : (text : List ℕ) (neg : Bool) (start : ℕ) → Signs text neg → start ≡ start_of neg → (x : WholeParts text) → (x.n ≡ neg) × (drop start text ≡ x.i)
-after_minus text true start g b x =
-    let u = unsigned_true g x.sign x.spelled (int_not_minus x.whole) in
-    (u.0, ap (λ k. drop k text) b ∙ u.1)
-after_minus text false start g b x =
-    let u = unsigned_false g x.sign x.spelled in
-    (u.0, ap (λ k. drop k text) b ∙ u.1)
+after_minus : (text : List ℕ) (neg : Bool) (digits : List ℕ) → Signs text neg digits → (x : WholeParts text) → (x.n ≡ neg) × (digits ≡ x.i)
+after_minus text neg digits g x = minus_first g x.sign x.spelled (int_not_minus x.whole)
 
-digits_and_zeros : (text : List ℕ) (start end : ℕ) → Trimmed text start end → drop start text ≡ part text start end ++ replicate (length text - end) 48
-digits_and_zeros text start end t = cut text start end t.forward ∙ ap (λ l. part text start end ++ l) t.zeros
+-- the digits stand in the text
+digits_there : (text digits : List ℕ) (neg : Bool) → Signs text neg digits → drop (length text - length digits) text ≡ digits
+digits_there text digits true g = let one : length text - length digits ≡ 1 = omega (arith, ap length g) in ap (λ k. drop k text) one ∙ ap (drop 1) g
+digits_there text digits false g = let none : length text - length digits ≡ 0 = omega (arith, ap length g.0) in ap (λ k. drop k text) none ∙ sym g.0
 
-pub of_whole_zero : (text : List ℕ) (neg : Bool) (start end : ℕ) → Signs text neg → start ≡ start_of neg → Trimmed text start end → end ≡ start → Number text Whole → Normal text (record { negative = false; exponent = pos 0 }) (part text start (length text))
-of_whole_zero text neg start end g b t e y =
+-- those of them that are given back, but for zeros at the end
+pub of_whole_told : (text digits ds zs : List ℕ) (neg : Bool) (d : Scale) → Signs text neg digits → digits ≡ ds ++ zs → length text ≤ 1000 → (Number text Whole → Normal text d ds) → OfWhole text d ds
+of_whole_told text digits ds zs neg d g e h n =
+    let from = length text - length digits in
+    let size : from + length ds - from ≡ length ds = omega arith in
+    record {
+      from = from;
+      to = from + length ds;
+      forward = omega arith;
+      within = omega (arith, ap length e, length-append ds zs, minus_shorter text digits neg g);
+      stands = sym (ap (λ k. take k (drop from text)) size ∙ ap (take (length ds)) (digits_there text digits neg g ∙ e) ∙ take-append_seam ds zs);
+      normal = λ l. n;
+      long = λ l. absurd (omega arith);
+    }
+
+pub of_whole_zero : (text : List ℕ) (neg : Bool) (digits kept : List ℕ) → Signs text neg digits → Trimmed digits kept → length kept ≡ 0 → Number text Whole → Normal text (record { negative = false; exponent = pos 0 }) digits
+of_whole_zero text neg digits kept g t e y =
     let x = whole_parts y in
-    let u = after_minus text neg start g b x in
-    let nothing : part text start end ≡ [] = nil_from_length (part text start end) (length_part text start end t.within ∙ omega arith) in
-    let zeros : x.i ≡ replicate (length text - end) 48 = sym u.1 ∙ digits_and_zeros text start end t ∙ ap (λ l. l ++ replicate (length text - end) 48) nothing in
-    let i-zero = int_zero (length text - end) x.whole zeros in
-    let here : part text start (length text) ≡ 48 ∷ [] = take_rest text start ∙ u.1 ∙ i-zero in
-    subst (Normal text (record { negative = false; exponent = pos 0 })) (sym here)
+    let u = after_minus text neg digits g x in
+    let z = length digits - length kept in
+    let zeros : x.i ≡ replicate z 48 = sym u.1 ∙ t.zeros ∙ ap (λ l. l ++ replicate z 48) (nil_from_length kept e) in
+    let i-zero = int_zero z x.whole zeros in
+    subst (Normal text (record { negative = false; exponent = pos 0 })) (sym (u.1 ∙ i-zero))
     (record { formed = form_zero; worth = λ n a s w. zero_same n a s ((whole_tells x n a s w).1 ∙ ap value i-zero) })
 
-pub of_whole_some : (text : List ℕ) (neg : Bool) (start end : ℕ) (p : ℤ) → Signs text neg → start ≡ start_of neg → Trimmed text start end → start < end → p ≡ pos (length text - end) → Number text Whole → Normal text (record { negative = neg; exponent = p }) (part text start end)
-of_whole_some text neg start end p g b t h q y =
+pub of_whole_some : (text : List ℕ) (neg : Bool) (digits ds : List ℕ) (p : ℤ) → Signs text neg digits → Trimmed digits ds → 0 < length ds → p ≡ pos (length digits - length ds) → Number text Whole → Normal text (record { negative = neg; exponent = p }) ds
+of_whole_some text neg digits ds p g t some q y =
     let x = whole_parts y in
-    let u = after_minus text neg start g b x in
-    let ds = part text start end in
-    let z = length text - end in
-    let all : x.i ≡ ds ++ replicate z 48 = sym u.1 ∙ digits_and_zeros text start end t in
-    let long = length_part text start end t.within in
-    let some : 0 < length ds = omega (arith, long) in
-    let there : start + (length ds - 1) ≡ end - 1 = omega (arith, long) in
-    let at : get_or ds (length ds - 1) 0 ≡ get_or text (end - 1) 0 =
-    get_or-take (end - start) (drop start text) (length ds - 1) 0 (omega (arith, long)) ∙ get_or-drop start text (length ds - 1) 0 ∙ ap (λ k. get_or text k 0) there in
-    let ends : get_or ds (length ds - 1) 0 ≢ 48 = λ e. t.last h (sym at ∙ e) in
+    let u = after_minus text neg digits g x in
+    let z = length digits - length ds in
+    let all : x.i ≡ ds ++ replicate z 48 = sym u.1 ∙ t.zeros in
+    let ends = t.last some in
     let each = each_left ds (replicate z 48) (subst Each all (each_of (int_digits x.whole))) in
     let led = int_some ds z x.whole all some ends in
     let worth_is : value x.i ≡ value ds * 10 ^ z = ap value all ∙ value-zeros ds z in

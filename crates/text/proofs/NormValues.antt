@@ -1,12 +1,11 @@
 -- Laws of the value of digits.
-use Rattle.std.proofs.Common.{◌≡◌, ℕ, zero, suc, ◌+◌, ◌-◌, ◌*◌, ◌^◌, ◌<◌, ◌≤◌, Bool, true, false, ◌≢◌, List, [], ◌∷◌, ◌++◌, length, get_or, take, drop, replicate, ℤ, pos, neg_ℤ, nat_abs, sym, refl, ap, ◌∙◌, subst, mul_assoc, add-mul, arith, length-append, length-drop}
+use Rattle.std.proofs.Common.{◌≡◌, ℕ, zero, suc, ◌+◌, ◌-◌, ◌*◌, ◌^◌, ◌<◌, ◌≤◌, Bor, Option, None, Some, MatchOption, unwrap_or, true, false, ◌≢◌, List, [], ◌∷◌, ◌++◌, length, get_or, take, drop, replicate, ℤ, pos, neg_ℤ, sym, refl, ap, ◌∙◌, subst, mul_assoc, add-mul, append_assoc, take_all, arith, length-append, length-drop}
 use native.Mathlib.Nat.{pow-succ'}
-use Rattle.std.proofs.lemmas.List.{take_more, get_or-drop, take-append-drop, drop-append-le, take-append-le, get_or-take, get_or_append_left, length-take-le, take-take}
+use Rattle.std.proofs.lemmas.List.{take_more, take-append-drop, drop-append-le, take-append-le, get_or_append_left, length-take-le}
 use Rattle.text.specs.NumberGrammar.{IsDigit, Digits, none, digit}
 use Rattle.text.specs.NumberWorth.{after, value, Power, no_power, plain, more, less}
-use Rattle.text.specs.NormalForm.{Each, Held, Led, Grown, Trimmed, signed}
-use Rattle.text.specs.Cuts.{part}
-use Rattle.text.proofs.LexBase.{there, gone}
+use Rattle.text.specs.NormalForm.{Each, Held, Led, Grown}
+use Rattle.text.proofs.LexBase.{gone}
 
 pub after-append : (v : ℕ) (xs ys : List ℕ) → after v (xs ++ ys) ≡ after (after v xs) ys
 after-append v [] ys = refl
@@ -86,23 +85,22 @@ held_zero {ds} {v} h e =
     record { each = h.each; led = h.led; worth = h.worth ∙ n }
 
 -- the sign and the digits of an exponent
-pub led_minus : (text : List ℕ) (at : ℕ) → at < length text → drop at text ≡ 45 ∷ drop (at + 1) text → Led text at true (at + 1)
-led_minus text at h b = record { within = omega arith; power = λ e p q. by_minus (subst (λ x. Power (e ∷ x) p) b q) }
+pub led_minus : (text digits : List ℕ) → text ≡ 45 ∷ digits → Led text true digits
+led_minus text digits b e p q = by_minus (subst (λ x. Power (e ∷ x) p) b q)
 
-pub led_plus : (text : List ℕ) (at : ℕ) → at < length text → drop at text ≡ 43 ∷ drop (at + 1) text → Led text at false (at + 1)
-led_plus text at h b = record { within = omega arith; power = λ e p q. by_plus (subst (λ x. Power (e ∷ x) p) b q) }
+pub led_plus : (text digits : List ℕ) → text ≡ 43 ∷ digits → Led text false digits
+led_plus text digits b e p q = by_plus (subst (λ x. Power (e ∷ x) p) b q)
 
-pub led_other : (text : List ℕ) (at : ℕ) → at ≤ length text → ((r : List ℕ) → drop at text ≡ 45 ∷ r → ⊥) → ((r : List ℕ) → drop at text ≡ 43 ∷ r → ⊥) → Led text at false at
-led_other text at h a b = record { within = h; power = λ e p q. by_other a b q }
+pub led_other : (text : List ℕ) → ((r : List ℕ) → text ≡ 45 ∷ r → ⊥) → ((r : List ℕ) → text ≡ 43 ∷ r → ⊥) → Led text false text
+led_other text a b e p q = by_other a b q
+
+-- a plus, or no sign
+pub led_rest : (text : Bor (List ℕ)) → ((r : List ℕ) → text.now ≡ 45 ∷ r → ⊥) → (r : Option (Bor (List ℕ))) → MatchOption r ((rest : List ℕ) → text.now ≢ 43 ∷ rest) (λ x. text.now ≡ 43 ∷ x.now) → Led text.now false (unwrap_or r text).now
+led_rest text n None m = led_other text.now n m
+led_rest text n (Some x) m = led_plus text.now x.now m
 
 pub by_nothing : {p : ℤ} → Power [] p → pos 0 ≡ p
 by_nothing no_power = refl
-
--- zeros at the end
-pub zeros_more : (xs : List ℕ) (n : ℕ) → n < length xs → get_or xs n 0 ≡ 48 → drop (n + 1) xs ≡ replicate (length xs - (n + 1)) 48 → drop n xs ≡ replicate (length xs - n) 48
-zeros_more xs n h b e =
-    let one : suc (length xs - (n + 1)) ≡ length xs - n = omega arith in
-    there xs n h ∙ ap (λ d. d ∷ drop (n + 1) xs) b ∙ ap (λ l. 48 ∷ l) e ∙ ap (λ k. replicate k 48) one
 
 -- the turns of `add`
 pub record Filled (base : ℕ) (before ds text : List ℕ) (i : ℕ) : Type 0 where
@@ -152,14 +150,6 @@ nothing_past base ds h = gone ds base h
 pub something_past : (base : ℕ) (ds : List ℕ) → base < length ds → drop base ds ≡ [] → ⊥
 something_past base ds h e = omega (arith, length-drop base ds, ap length e)
 
-pub nat_abs-neg : (n : ℕ) → nat_abs (neg_ℤ (pos n)) ≡ n
-nat_abs-neg zero = refl
-nat_abs-neg (suc n) = refl
-
-pub nat_abs-signed : (b : Bool) (n : ℕ) → nat_abs (signed b n) ≡ n
-nat_abs-signed true n = nat_abs-neg n
-nat_abs-signed false n = refl
-
 -- what is left after the zeros
 pub held_none : Held [] 0
 held_none = record { each = λ k h. absurd (omega arith); led = λ h. omega arith; worth = refl }
@@ -183,44 +173,18 @@ left all ds zeros v h e = record {
   worth = sym h.worth ∙ ap value e ∙ value-zeros ds zeros;
 }
 
--- the zeros at the end are left out
-pub trim_all : (xs ys : List ℕ) (base end : ℕ) → Trimmed xs base end → ys ≡ take end xs → drop base xs ≡ drop base ys ++ replicate (length xs - end) 48
-trim_all xs ys base end t e =
-    let long : length ys ≡ end = ap length e ∙ length-take-le end xs t.within in
-    let all : xs ≡ ys ++ replicate (length xs - end) 48 = sym (take-append-drop end xs) ∙ ap (λ l. take end xs ++ l) t.zeros ∙ ap (λ l. l ++ replicate (length xs - end) 48) (sym e) in
-    ap (drop base) all ∙ drop-append-le base ys (replicate (length xs - end) 48) (omega (arith, t.forward))
+-- what follows the rest of the digits are zeros
+abbrev pub Trimming : List ℕ → List ℕ → Type 0
+Trimming digits rest = digits ≡ rest ++ replicate (length digits - length rest) 48
 
-pub trim_last : (xs ys : List ℕ) (base end : ℕ) → Trimmed xs base end → ys ≡ take end xs → base < end → get_or (drop base ys) (length (drop base ys) - 1) 0 ≢ 48
-trim_last xs ys base end t e h b =
-    let long : length ys ≡ end = ap length e ∙ length-take-le end xs t.within in
-    let there : base + (length (drop base ys) - 1) ≡ end - 1 = omega (arith, length-drop base ys) in
-    let here : get_or (drop base ys) (length (drop base ys) - 1) 0 ≡ get_or xs (end - 1) 0 =
-    get_or-drop base ys (length (drop base ys) - 1) 0 ∙ ap (λ k. get_or ys k 0) there ∙ ap (λ l. get_or l (end - 1) 0) e ∙ get_or-take end xs (end - 1) 0 (omega arith) in
-    t.last h (sym here ∙ b)
-
-pub zeros_less : (xs : List ℕ) (n : ℕ) → 0 < n → n ≤ length xs → get_or xs (n - 1) 0 ≡ 48 → drop n xs ≡ replicate (length xs - n) 48 → drop (n - 1) xs ≡ replicate (length xs - (n - 1)) 48
-zeros_less xs n h l b z =
-    let one : n ≡ (n - 1) + 1 = omega arith in
-    zeros_more xs (n - 1) (omega arith) b (subst (λ k. drop k xs ≡ replicate (length xs - k) 48) one z)
-
--- rest is what the text has from there on, but for zeros at its end
-pub record Trimming (xs : List ℕ) (from : ℕ) (rest : List ℕ) : Type 0 where
-  pub within : from + length rest ≤ length xs
-  pub is : rest ≡ part xs from (from + length rest)
-  pub zeros : drop (from + length rest) xs ≡ replicate (length xs - (from + length rest)) 48
-
-pub trim_more : (xs : List ℕ) (from : ℕ) (rest : List ℕ) → Trimming xs from rest → 1 ≤ length rest → get_or rest (length rest - 1) 0 ≡ 48 → Trimming xs from (take (length rest - 1) rest)
-trim_more xs from rest t h b =
-    let n = length rest in
-    let m : length (take (n - 1) rest) ≡ n - 1 = length-take-le (n - 1) rest (omega arith) in
-    let p : from + n - from ≡ n = omega arith in
-    let q : from + length (take (n - 1) rest) - from ≡ n - 1 = omega (arith, m) in
-    let e : from + n - 1 ≡ from + (n - 1) = omega arith in
-    let front : rest ≡ take n (drop from xs) = t.is ∙ ap (λ k. take k (drop from xs)) p in
-    let last : get_or xs (from + n - 1) 0 ≡ 48
-    = ap (λ k. get_or xs k 0) e ∙ sym (get_or-drop from xs (n - 1) 0) ∙ sym (get_or-take n (drop from xs) (n - 1) 0 (omega arith)) ∙ sym (ap (λ l. get_or l (n - 1) 0) front) ∙ b in
-    record {
-      within = omega (arith, t.within, m);
-      is = ap (take (n - 1)) front ∙ take-take (n - 1) n (drop from xs) (omega arith) ∙ sym (ap (λ k. take k (drop from xs)) q);
-      zeros = subst (λ (k : ℕ). drop k xs ≡ replicate (length xs - k) 48) (let e : from + n - 1 ≡ from + length (take (n - 1) rest) = omega arith in e) (zeros_less xs (from + n) (omega arith) t.within last t.zeros);
-    }
+pub trim_more : (digits rest : List ℕ) → Trimming digits rest → 1 ≤ length rest → get_or rest (length rest - 1) 0 ≡ 48 → Trimming digits (take (length rest - 1) rest)
+trim_more digits rest t h b =
+    let n = length rest - 1 in
+    let front = take n rest in
+    let zeros = length digits - length rest in
+    let size : length front ≡ n = length-take-le n rest (omega arith) in
+    let whole : take (n + 1) rest ≡ rest = take_all (n + 1) rest (omega arith) in
+    let spelled : rest ≡ front ++ 48 ∷ [] = sym whole ∙ take_more rest n 0 (omega arith) ∙ ap (λ k. front ++ k ∷ []) b in
+    let short : length rest ≤ length digits = omega (arith, ap length t, length-append rest (replicate zeros 48)) in
+    let one : suc zeros ≡ length digits - length front = omega arith in
+    t ∙ ap (λ l. l ++ replicate zeros 48) spelled ∙ append_assoc front (48 ∷ []) (replicate zeros 48) ∙ ap (λ k. front ++ replicate k 48) one

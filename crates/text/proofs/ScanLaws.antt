@@ -6,10 +6,10 @@ use Rattle.text.specs.declared.fault.Fault.{Fault}
 use Rattle.text.specs.declared.fault.Fault.TheVariants.{BadText, TooDeep, NoSpace, RepeatedName, LongNumber, NoMemory}
 use Rattle.text.specs.declared.number.NumberKind.{NumberKind}
 use Rattle.text.specs.declared.number.State.{State}
-use Rattle.text.specs.NumberMoves.{capped}
+use Rattle.text.specs.NumberMoves.{capped, exponent_in}
 use Rattle.text.specs.NumberGrammar.{Number}
 use Rattle.text.specs.NumberScan.{exponent_of, Begins, Longest, Found, Unfinished, Endless, FarScaled, ScanRefused, OneScan}
-use Rattle.text.proofs.ScanRuns.{complete, same_place, Ends, zero_ends, int_ends, frac_ends, exp_ends}
+use Rattle.text.proofs.ScanRuns.{complete, same_state, Ends, zero_ends, int_ends, frac_ends, exp_ends}
 use Rattle.text.specs.Cuts.{part}
 
 -- what begins a number with more bytes does so without them
@@ -36,17 +36,17 @@ ends_kind frac_ends frac_ends = refl
 ends_kind exp_ends exp_ends = refl
 
 -- a number has one kind, and its exponent one size, up to a million
-one_reading_lem : {xs : List ℕ} {k l : NumberKind} (a : Number xs k) (b : Number xs l) → (k ≡ l) × (capped (exponent_of a) ≡ capped (exponent_of b))
-one_reading_lem {l = l} a b =
+one_reading : {xs : List ℕ} {k l : NumberKind} (a : Number xs k) (b : Number xs l) → (k ≡ l) × (capped (exponent_of a) ≡ capped (exponent_of b))
+one_reading {l = l} a b =
     let c = complete a in
     let d = complete b in
-    let same = same_place (sym d.1 ∙ c.1) in
-    (ends_kind c.2 (subst (λ s. Ends s l) same.0 d.2), sym same.1)
+    let same = same_state (sym d.1 ∙ c.1) in
+    (ends_kind c.2 (subst (λ s. Ends s l) same d.2), sym c.3 ∙ ap exponent_in (sym same) ∙ d.3)
 
 at_end : {text : List ℕ} {at a b : ℕ} {k l : NumberKind} → Longest text at a → Longest text at b → (x : Number (part text at a) k) (y : Number (part text at b) l) → (k ≡ l) × (capped (exponent_of x) ≡ capped (exponent_of y))
 at_end {text} {at} {a} {b} {k} {l} p q =
     let P : ℕ → Type 0 = λ n. (x : Number (part text at a) k) (y : Number (part text at n) l) → (k ≡ l) × (capped (exponent_of x) ≡ capped (exponent_of y)) in
-    subst P (same_end p q) (λ x y. one_reading_lem x y)
+    subst P (same_end p q) (λ x y. one_reading x y)
 
 no_number_else : {text : List ℕ} {at end : ℕ} {k : NumberKind} → Longest text at end → Number (part text at end) k → Unfinished text at → ⊥
 no_number_else {text} {at} {k = k} l x u = u.no_number k (subst (λ e. Number (part text at e) k) (same_end l u.longest) x)
@@ -94,8 +94,8 @@ refused_same text at (NoSpace j) e f g = absurd f
 refused_same text at (RepeatedName j) e f g = absurd f
 refused_same text at NoMemory e f g = absurd f
 
-pub one_scan_lem : OneScan
-one_scan_lem text at (Ok r) (Ok s) f g = ap Ok (found_same r s f g)
-one_scan_lem text at (Ok r) (Err e) f g = absurd (found_refused r e f g)
-one_scan_lem text at (Err e) (Ok s) f g = absurd (found_refused s e g f)
-one_scan_lem text at (Err d) (Err e) f g = ap Err (refused_same text at d e f g)
+pub scans_once : OneScan
+scans_once text at (Ok r) (Ok s) f g = ap Ok (found_same r s f g)
+scans_once text at (Ok r) (Err e) f g = absurd (found_refused r e f g)
+scans_once text at (Err e) (Ok s) f g = absurd (found_refused s e g f)
+scans_once text at (Err d) (Err e) f g = ap Err (refused_same text at d e f g)

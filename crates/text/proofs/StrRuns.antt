@@ -8,7 +8,7 @@ use Rattle.std.proofs.lemmas.Bool.Decides.{nat_tests}
 use Rattle.text.specs.declared.language.Language.{Language}
 use Rattle.text.specs.StringGrammar.{utf8, Hex4, hex4, Low, low, Code, lone, pair, Escape, short, unicode, Unescaped, Char, unescaped, escape, Run, none, more, Reads}
 use Rattle.text.specs.StringDecode.{Exactly, Nothing, Scanned, Decoded, Broken, Extended}
-use Rattle.text.proofs.StrUtf8.{drop_more, by_lead}
+use Rattle.text.proofs.StrUtf8.{drop_more, no_utf8}
 use Rattle.text.proofs.StrChars.{char_same, no_quote, no_backslash}
 
 -- what stands at the front depends only on its own bytes, which are p
@@ -76,7 +76,7 @@ module _ {language : Language} where
   stopped stop (more {ys = ys} {c = c} d x) = absurd (stop c ys d)
 
   nil_stops : Stops language []
-  nil_stops c t (unescaped u o) = omega (arith, (by_lead [] 0 u).0)
+  nil_stops c t (unescaped u o) = no_utf8 u
 
   quote_stops : (r : List ℕ) → Stops language (34 ∷ r)
   quote_stops r c t d = no_quote d

@@ -101,12 +101,11 @@ WholesAreUnique = (xs ys : List ℕ) (n m : Bool) (a b : ℕ) (s t : ℤ) → Wh
 
 -- What the inner functions promise.
 
--- the digits from i on end at j
-pub record DigitsTo (text : List ℕ) (i j : ℕ) : Type 0 where
-  pub forward : i ≤ j
-  pub within : j ≤ length text
-  pub all : (k : ℕ) → i ≤ k → k < j → IsDigit (slice_index text k)
-  pub stops : j < length text → IsDigit (slice_index text j) → ⊥
+-- the text is those digits, and then what begins with no digit
+pub record DigitsFirst (text digits rest : List ℕ) : Type 0 where
+  pub spelled : text ≡ digits ++ rest
+  pub each : Each digits
+  pub stops : 0 < length rest → IsDigit (slice_index rest 0) → ⊥
 
 -- the value of digits, if it has at most six after leading zeros
 abbrev pub Sized : List ℕ → Option ℕ → Type 0
@@ -118,10 +117,9 @@ abbrev pub signed : Bool → ℕ → ℤ
 signed true n = neg_ℤ (pos n)
 signed false n = pos n
 
--- the sign of an exponent, and where its digits begin
-pub record Led (text : List ℕ) (at : ℕ) (negative : Bool) (from : ℕ) : Type 0 where
-  pub within : from ≤ length text
-  pub power : (e : ℕ) (p : ℤ) → Power (e ∷ drop at text) p → (p ≡ signed negative (value (drop from text))) × Each (drop from text)
+-- the sign of an exponent whose mark stands before the text, and its digits
+abbrev pub Led : List ℕ → Bool → List ℕ → Type 0
+Led text negative digits = (e : ℕ) (p : ℤ) → Power (e ∷ text) p → (p ≡ signed negative (value digits)) × Each digits
 
 -- the value of an exponent, if it has at most six digits after leading zeros
 abbrev pub Powered : List ℕ → Option ℤ → Type 0
@@ -141,30 +139,19 @@ pub record Grown (base : ℕ) (before now text : List ℕ) : Type 0 where
   pub most : length now ≤ length before + length text
   pub held : (v : ℕ) → Held (drop base before) v → Each text → Held (drop base now) (after v text)
 
--- from end on there are zeros only, and no zero stands before end, unless end is from
-pub record Trimmed (xs : List ℕ) (from end : ℕ) : Type 0 where
-  pub forward : from ≤ end
-  pub within : end ≤ length xs
-  pub zeros : drop end xs ≡ replicate (length xs - end) 48
-  pub last : from < end → slice_index xs (end - 1) ≢ 48
+-- what follows the digits that are kept are zeros, and the last that is kept is none
+pub record Trimmed (digits kept : List ℕ) : Type 0 where
+  pub zeros : digits ≡ kept ++ replicate (length digits - length kept) 48
+  pub last : 0 < length kept → slice_index kept (length kept - 1) ≢ 48
 
--- whether there is a minus
-abbrev pub Signs : List ℕ → Bool → Type 0
-Signs text true = (0 < length text) × (slice_index text 0 ≡ 45)
-Signs text false = 0 < length text → slice_index text 0 ≢ 45
+-- whether there is a minus, and what follows it
+abbrev pub Signs : List ℕ → Bool → List ℕ → Type 0
+Signs text true rest = text ≡ 45 ∷ rest
+Signs text false rest = (rest ≡ text) × ((r : List ℕ) → text ≡ 45 ∷ r → ⊥)
 
--- where the digits begin
-abbrev pub start_of : Bool → ℕ
-start_of true = 1
-start_of false = 0
-
--- where the parts of a number stand that begins at start, after its minus if any
-pub record Split (text : List ℕ) (start : ℕ) (p : Parts) : Type 0 where
-  pub begins : p.start ≡ start
-  pub first : p.start ≤ p.point
-  pub second : p.point ≤ p.places
-  pub third : p.places ≤ p.mark
-  pub within : p.mark ≤ length text
-  pub wholes : Each (part text p.start p.point)
-  pub fracs : Each (part text p.places p.mark)
-  pub found : (i f e ds : List ℕ) (q : ℤ) → drop p.start text ≡ i ++ (f ++ e) → IsInt i → Fraction f ds → Power e q → (part text p.start p.point ≡ i) × (part text p.places p.mark ≡ ds) × (drop p.mark text ≡ e)
+-- the parts of a number after its minus
+pub record Split (text : List ℕ) (p : Parts) : Type 0 where
+  pub within : length p.whole.now + length p.places.now ≤ length text
+  pub wholes : Each p.whole.now
+  pub fracs : Each p.places.now
+  pub found : (i f e ds : List ℕ) (q : ℤ) → text ≡ i ++ (f ++ e) → IsInt i → Fraction f ds → Power e q → (p.whole.now ≡ i) × (p.places.now ≡ ds) × (p.power.now ≡ e)

@@ -1,7 +1,7 @@
 -- Where a token stands.
 use Rattle.std.specs.Prelude.{◌≡◌, ℕ, ◌<◌, ◌≤◌, Bool, true, false}
 use Rattle.text.specs.declared.token.Token.{Token}
-use Rattle.text.specs.declared.token.Token.TheVariants.{Bang, Dollar, Ampersand, OpenParen, CloseParen, Spread, Colon, Equals, At, OpenBracket, CloseBracket, OpenBrace, Pipe, CloseBrace, Comma, Name, Whole, Decimal, Text, End}
+use Rattle.text.specs.declared.token.Token.TheVariants.{Bang, Dollar, Ampersand, OpenParen, CloseParen, Spread, Colon, Equals, At, OpenBracket, CloseBracket, OpenBrace, Pipe, CloseBrace, Comma, Name, Number, Text, End}
 
 abbrev pub is_end : Token → Bool
 is_end Bang = false
@@ -20,8 +20,7 @@ is_end Pipe = false
 is_end CloseBrace = false
 is_end Comma = false
 is_end (Name s) = false
-is_end (Whole s) = false
-is_end (Decimal s) = false
+is_end (Number s k) = false
 is_end (Text s p) = false
 is_end End = true
 

@@ -25,25 +25,20 @@ abbrev pub Told : (R : List ℕ → ℕ → List ℕ → Type 0) (text : List �
 Told R text at None = Nothing R text at
 Told R text at (Some r) = Exactly R text at r.0 r.1
 
--- the six bits of a byte that goes on with a character
-abbrev pub SixTold : List ℕ → ℕ → Option ℕ → Type 0
-SixTold text at None = at < length text → 128 ≤ slice_index text at → 192 ≤ slice_index text at
-SixTold text at (Some v) = (at < length text) × (slice_index text at ≡ 128 + v) × (v < 64)
-
 -- the value of a hexadecimal digit, or that b is none
 abbrev pub HexTold : ℕ → Option ℕ → Type 0
 HexTold b None = 16 ≤ digit_value b
 HexTold b (Some v) = (v ≡ digit_value b) × (v < 16)
 
--- the value of the four digits that stand at `at`, or that none do
-abbrev pub Hex4Told : List ℕ → ℕ → Option ℕ → Type 0
-Hex4Told text at None = Nothing Hex4 text at
-Hex4Told text at (Some u) = (u < 65536) × Exactly Hex4 text at u (at + 4)
+-- the value of the four digits at the front, or that none stand there
+abbrev pub Hex4Told : List ℕ → Option ℕ → Type 0
+Hex4Told text None = Nothing Hex4 text 0
+Hex4Told text (Some u) = (u < 65536) × Exactly Hex4 text 0 u 4
 
--- the low surrogate whose escape stands at `at`, or that none does
-abbrev pub LowTold : List ℕ → ℕ → Option ℕ → Type 0
-LowTold text at None = Nothing Low text at
-LowTold text at (Some u) = Exactly Low text at u (at + 6) × IsInRange 56320 57343 u
+-- the low surrogate whose escape stands at the front, or that none does
+abbrev pub LowTold : List ℕ → Option ℕ → Type 0
+LowTold text None = Nothing Low text 0
+LowTold text (Some u) = Exactly Low text 0 u 6 × IsInRange 56320 57343 u
 
 -- the string at `at` ends before `end`, and `plain` says whether its bytes have no backslash
 pub record Scanned (language : Language) (text : List ℕ) (at end : ℕ) (plain : Bool) : Type 0 where

@@ -4,10 +4,9 @@ use Rattle.text.specs.declared.fault.Fault.{Fault}
 use Rattle.text.specs.declared.fault.Fault.TheVariants.{BadText, TooDeep, NoSpace, RepeatedName, LongNumber, NoMemory}
 use Rattle.text.specs.declared.language.Language.{Language}
 use Rattle.text.specs.declared.number.NumberKind.{NumberKind}
-use Rattle.text.specs.declared.number.NumberKind.TheVariants.{Whole as WholeKind, Decimal as DecimalKind}
 use Rattle.text.specs.declared.token.Lexeme.{Lexeme}
 use Rattle.text.specs.declared.token.Token.{Token}
-use Rattle.text.specs.declared.token.Token.TheVariants.{Bang, Dollar, Ampersand, OpenParen, CloseParen, Spread, Colon, Equals, At, OpenBracket, CloseBracket, OpenBrace, Pipe, CloseBrace, Comma, Name, Whole, Decimal, Text, End}
+use Rattle.text.specs.declared.token.Token.TheVariants.{Bang, Dollar, Ampersand, OpenParen, CloseParen, Spread, Colon, Equals, At, OpenBracket, CloseBracket, OpenBrace, Pipe, CloseBrace, Comma, Name, Number, Text, End}
 use Rattle.text.specs.NumberScan.{Found, Endless, FarScaled, ScanRefused}
 use Rattle.text.specs.StringGrammar.{Reads}
 use Rattle.text.specs.StringDecode.{Scanned, Nothing}
@@ -40,8 +39,7 @@ view_of Pipe = v_mark pipe
 view_of CloseBrace = v_mark close_brace
 view_of Comma = v_mark comma
 view_of (Name s) = v_name s.now
-view_of (Whole s) = v_number WholeKind s.now
-view_of (Decimal s) = v_number DecimalKind s.now
+view_of (Number s k) = v_number k s.now
 view_of (Text s p) = v_text s.now p
 view_of End = v_end
 

@@ -1,13 +1,13 @@
 // Normal forms of numbers.
-ghost use Rattle.std.specs.Prelude.{◌≡◌, ◌+◌, ◌<◌, ◌≤◌, length, drop, ℤ, pos, ◌+ℤ◌, ◌-ℤ◌, vec_capacity, unsigned_abs};
+ghost use Rattle.std.specs.Prelude.{◌≡◌, ◌+◌, ◌<◌, ◌≤◌, length, ℤ, pos, ◌+ℤ◌, ◌-ℤ◌, vec_capacity, unsigned_abs};
 ghost use Rattle.text.specs.declared.number.NumberKind.TheVariants.{Whole};
 ghost use Rattle.text.specs.NumberGrammar.{Number};
 ghost use Rattle.text.specs.NumberWorth.{NumbersWrite, WritersAreNumbers, WritesOnce, WorthIsEquivalence};
-ghost use Rattle.text.specs.NormalForm.{DigitsTo, Sized, Led, Powered, Grown, Trimmed, Signs, Split, start_of, Told, WholeOf, WholeNormal, OfWhole, FormsAreUnique, EqualNumbersEqualForms, EqualFormsEqualNumbers, WholesAreUnique};
+ghost use Rattle.text.specs.NormalForm.{DigitsFirst, Sized, Led, Powered, Grown, Trimmed, Signs, Split, Told, WholeOf, WholeNormal, OfWhole, FormsAreUnique, EqualNumbersEqualForms, EqualFormsEqualNumbers, WholesAreUnique};
 
 use crate::fault::Fault;
 use crate::limits::{LONG_EXPONENT, LONGEST_NUMBER};
-use crate::run::run_end;
+use crate::run::run_len;
 
 // Sign and exponent of a decimal in normal form; its digits stand elsewhere.
 #[derive(Clone, Copy, Debug, PartialEq)]
@@ -24,21 +24,19 @@ impl Scale {
     };
 }
 
-// Where the parts of a number stand: its integer from `start` to `point`, the digits of its fraction from `places` to `mark`, and then its exponent.
+// The parts of a number after its minus: the digits of its integer and of its fraction, and its exponent from the mark on.
 #[derive(Clone, Copy)]
-struct Parts {
-    start: usize,
-    point: usize,
-    places: usize,
-    mark: usize,
+struct Parts<'a> {
+    whole: &'a [u8],
+    places: &'a [u8],
+    power: &'a [u8],
 }
 
-// The end of the run of digits at `at`.
-fn run(text: &[u8], at: usize) -> usize
-    requires { at ≤ length text.now }
-    ensures { DigitsTo text.now at result }
+// The digits at the front, and what follows them.
+fn run(text: &[u8]) -> (&[u8], &[u8])
+    ensures { DigitsFirst text.now result.0.now result.1.now }
 {
-    run_end(text, at, |byte| byte.is_ascii_digit())
+    text.split_at(run_len(text, |byte| byte.is_ascii_digit()))
 }
 
 // The number that the digits write, if it has at most six after leading zeros.
@@ -55,30 +53,38 @@ fn size(digits: &[u8]) -> Option<u32>
     Some(value)
 }
 
-// The sign of the exponent whose mark stands before `at`, and where its digits begin.
-fn lead(text: &[u8], at: usize) -> (bool, usize)
-    requires { at ≤ length text.now }
-    ensures { Led text.now at result.0 result.1 }
+// Whether a minus stands at the front, and what follows it.
+fn sign(text: &[u8]) -> (bool, &[u8])
+    ensures { Signs text.now result.0 result.1.now }
 {
-    if text[at..].starts_with(b"-") {
-        (true, at + 1)
-    } else if text[at..].starts_with(b"+") {
-        (false, at + 1)
-    } else {
-        (false, at)
+    match text.strip_prefix(b"-") {
+        Some(rest) => (true, rest),
+        None => (false, text),
     }
 }
 
-// The exponent that stands at `at`, 0 where there is none.
-fn power(text: &[u8], at: usize) -> Option<i32>
-    requires { at ≤ length text.now }
-    ensures { Powered (drop at text.now) result }
+// The sign and the digits of an exponent, after its mark.
+fn lead(power: &[u8]) -> (bool, &[u8])
+    ensures { Led power.now result.0 result.1.now }
 {
-    if at >= text.len() {
-        return Some(0);
+    let (negative, rest) = sign(power);
+    if negative {
+        (true, rest)
+    } else {
+        (false, rest.strip_prefix(b"+").unwrap_or(rest))
     }
-    let (negative, from) = lead(text, at + 1);
-    let size = size(&text[from..])? as i32;
+}
+
+// The exponent, 0 where there is none.
+fn power(text: &[u8]) -> Option<i32>
+    ensures { Powered text.now result }
+{
+    let [_, rest @ ..] = text else {
+        return Some(0);
+    };
+    let (negative, digits) = lead(rest);
+    // `as` here and below: the numbers fit, and `try_from` would add an error that cannot happen.
+    let size = size(digits)? as i32;
     Some(if negative { -size } else { size })
 }
 
@@ -96,43 +102,30 @@ fn add(out: &mut Vec<u8>, base: usize, digits: &[u8])
     }
 }
 
-// Where the zeros at the end begin, not before `from`.
-fn trimmed(digits: &[u8], from: usize) -> usize
-    requires { from ≤ length digits.now }
-    ensures { Trimmed digits.now from result }
+// The digits without the zeros at their end.
+fn trimmed(digits: &[u8]) -> &[u8]
+    ensures { Trimmed digits.now result.now }
 {
-    let mut rest = &digits[from..];
+    let mut rest = digits;
     while let [front @ .., b'0'] = rest {
         rest = front;
     }
-    from + rest.len()
+    rest
 }
 
-// Whether the number has a minus, and where its digits begin.
-fn sign(text: &[u8]) -> (bool, usize)
-    ensures minus { Signs text.now result.0 }
-    ensures start { result.1 ≡ start_of result.0 }
+// The parts of the number, which has no minus.
+fn split(text: &[u8]) -> Parts<'_>
+    ensures { Split text.now result }
 {
-    let negative = text.starts_with(b"-");
-    (negative, usize::from(negative))
-}
-
-// Where the parts of the number stand that begins at `start`, after its minus if any.
-fn locate(text: &[u8], start: usize) -> Parts
-    requires { start ≤ length text.now }
-    ensures { Split text.now start result }
-{
-    let point = run(text, start);
-    let (places, mark) = if text[point..].starts_with(b".") {
-        (point + 1, run(text, point + 1))
-    } else {
-        (point, point)
+    let (whole, rest) = run(text);
+    let (places, power) = match rest.strip_prefix(b".") {
+        Some(fraction) => run(fraction),
+        None => (&[][..], rest),
     };
     Parts {
-        start,
-        point,
+        whole,
         places,
-        mark,
+        power,
     }
 }
 
@@ -153,28 +146,23 @@ pub fn normal(text: &[u8], out: &mut Vec<u8>) -> Result<Scale, Fault>
     if text.len() > LONGEST_NUMBER {
         return Err(Fault::LongNumber(0));
     }
-    let (negative, from) = sign(text);
-    let Parts {
-        start,
-        point,
-        places,
-        mark,
-    } = locate(text, from);
-    let power = power(text, mark).ok_or(Fault::LongNumber(0))?;
+    let (negative, unsigned) = sign(text);
+    let parts = split(unsigned);
+    let power = power(parts.power).ok_or(Fault::LongNumber(0))?;
     let base = out.len();
-    out.reserve(mark - start)?;
-    add(out, base, &text[start..point]);
-    add(out, base, &text[places..mark]);
-    let end = trimmed(out.as_slice(), base);
-    let zeros = out.len() - end;
-    out.truncate(end);
-    if end == base {
+    out.reserve(parts.whole.len() + parts.places.len())?;
+    add(out, base, parts.whole);
+    add(out, base, parts.places);
+    let kept = trimmed(&out.as_slice()[base..]).len();
+    let zeros = out.len() - base - kept;
+    out.truncate(base + kept);
+    if kept == 0 {
         out.push(b'0')?;
         return Ok(Scale::ZERO);
     }
     Ok(Scale {
         negative,
-        exponent: exponent(power, mark - places, zeros),
+        exponent: exponent(power, parts.places.len(), zeros),
     })
 }
 
@@ -195,15 +183,16 @@ pub fn of_whole(text: &[u8]) -> (Scale, &[u8])
     ensures { OfWhole text.now result.0 result.1.now }
 {
     if text.len() > LONGEST_NUMBER {
+        // Every text has an answer: an Option would give callers, whose numbers are within the limit, a case that cannot come.
         return (Scale::ZERO, text);
     }
-    let (negative, start) = sign(text);
-    let end = trimmed(text, start);
-    if end == start {
-        return (Scale::ZERO, &text[start..]);
+    let (negative, digits) = sign(text);
+    let kept = trimmed(digits);
+    if kept.is_empty() {
+        return (Scale::ZERO, digits);
     }
-    let exponent = (text.len() - end) as i32;
-    (Scale { negative, exponent }, &text[start..end])
+    let exponent = (digits.len() - kept.len()) as i32;
+    (Scale { negative, exponent }, kept)
 }
 
 // Each number writes one thing, and what writes something is a number; to be worth the same is an equivalence.

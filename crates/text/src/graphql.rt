@@ -1,4 +1,4 @@
-// The tokens of GraphQL.
+// The tokens of GraphQL. What their grammar shares with that of JSON stands in `token`.
 ghost use Rattle.std.specs.Prelude.{◌≡◌, ◌+◌, ◌<◌, ◌≤◌, length, IfOk, MatchBool, slice_index};
 ghost use Rattle.text.specs.Places.{Placed, is_end};
 ghost use Rattle.text.specs.StringGrammar.{LineTerminator};
@@ -9,7 +9,7 @@ ghost use Rattle.text.specs.declared.language.Language.TheVariants.{Graphql};
 use crate::fault::Fault;
 use crate::language::Language;
 use crate::limits::LONGEST_NAME;
-use crate::run::run_end;
+use crate::run::run_len;
 use crate::token::{Lexeme, Token, begins_number};
 use crate::{string, token};
 
@@ -35,7 +35,10 @@ fn comment(text: &[u8], at: usize) -> Option<usize>
     ensures { StepTold Comment text.now at result }
 {
     let mut next = at + 1;
-    while next < text.len() && !ends_line(text[next]) {
+    // Not `run_len`: a character takes up to four bytes, and bytes may be no character.
+    while let Some(&byte) = text.get(next)
+        && !ends_line(byte)
+    {
         next = comment_char(text, next)?;
     }
     Some(next)
@@ -76,6 +79,7 @@ fn skip(text: &[u8], at: usize) -> usize
     ensures { Skipped Graphql text.now at result }
 {
     let mut next = at.min(text.len());
+    // Not `run_len`: a comment and a byte order mark take more than one byte.
     while let Some(end) = ignored(text, next) {
         next = end;
     }
@@ -99,7 +103,8 @@ fn name_end(text: &[u8], start: usize) -> usize
     requires { start < length text.now }
     ensures { NameEnd text.now start result }
 {
-    run_end(text, start + 1, continues_name)
+    let from = start + 1;
+    from + run_len(&text[from..], continues_name)
 }
 
 // The name that begins at `start`.
@@ -132,7 +137,9 @@ fn numeral(text: &[u8], start: usize) -> Result<Lexeme<'_>, Fault>
 {
     let number = token::numeral(text, start)?;
     let end = number.end;
-    if end < text.len() && barred_after_number(text[end]) {
+    if let Some(&byte) = text.get(end)
+        && barred_after_number(byte)
+    {
         return Err(Fault::BadText(start));
     }
     Ok(number)

@@ -7,7 +7,7 @@ ghost use Rattle.text.specs.declared.language.Language.TheVariants.{Json};
 
 use crate::fault::Fault;
 use crate::language::Language;
-use crate::run::run_end;
+use crate::run::run_len;
 use crate::token::{Lexeme, Token, begins_number, numeral, quoted, spelled};
 
 fn white_space(byte: u8) -> bool
@@ -20,7 +20,8 @@ fn white_space(byte: u8) -> bool
 fn skip(text: &[u8], at: usize) -> usize
     ensures { Skipped Json text.now at result }
 {
-    run_end(text, at.min(text.len()), white_space)
+    let from = at.min(text.len());
+    from + run_len(&text[from..], white_space)
 }
 
 // The structural character that a byte is.
@@ -40,9 +41,9 @@ fn structural<'a>(byte: u8) -> Option<Token<'a>>
 
 // The literal name that begins at `start`, if it is `word`.
 fn literal<'a>(text: &[u8], start: usize, word: &'a [u8]) -> Result<Lexeme<'a>, Fault>
-    requires start_in_bounds { start < length text.now }
-    requires literal_name { LiteralName word.now }
-    requires start_value { slice_index text.now start ≡ slice_index word.now 0 }
+    requires within { start < length text.now }
+    requires word { LiteralName word.now }
+    requires first { slice_index text.now start ≡ slice_index word.now 0 }
     ensures { FoundHere Json text.now start result }
 {
     spelled(text, start, word, Token::Name(word))

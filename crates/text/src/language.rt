@@ -1,3 +1,4 @@
+// The languages of the texts that are read.
 #[derive(Clone, Copy, Debug, PartialEq)]
 pub enum Language {
     Json,

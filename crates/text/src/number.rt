@@ -1,6 +1,6 @@
 // Scans the number that begins at a place of a text.
-ghost use Rattle.std.specs.Prelude.{◌≡◌, ◌≤◌};
-ghost use Rattle.text.specs.NumberMoves.{Stepped, Finished, kind_in};
+ghost use Rattle.std.specs.Prelude.{◌≡◌};
+ghost use Rattle.text.specs.NumberMoves.{next, Finished};
 ghost use Rattle.text.specs.NumberScan.{Scanned, OneScan};
 
 use crate::fault::Fault;
@@ -24,50 +24,33 @@ enum State {
     Frac,
     Exp,
     ExpSign,
-    ExpDigits,
+    // What the digits write so far, as far as `LONG_EXPONENT`.
+    ExpDigits(u32),
 }
 
-// The state, and what the digits of the exponent write so far, as far as `LONG_EXPONENT`.
-#[derive(Clone, Copy)]
-struct Scanner {
-    state: State,
-    exponent: u32,
-}
-
-impl Scanner {
+impl State {
     // After one more byte, if it continues a number.
-    fn step(self, byte: u8) -> Option<Scanner>
-        requires { self.exponent ≤ 1000000 }
-        ensures { Stepped self byte result }
+    fn step(self, byte: u8) -> Option<State>
+        ensures { result ≡ next self byte }
     {
-        let state = match (self.state, byte) {
-            (State::Start, b'-') => State::Minus,
-            (State::Start | State::Minus, b'0') => State::Zero,
-            (State::Start | State::Minus, b'1'..=b'9') => State::Int,
-            (State::Int, b'0'..=b'9') => State::Int,
-            (State::Zero | State::Int, b'.') => State::Point,
-            (State::Point | State::Frac, b'0'..=b'9') => State::Frac,
-            (State::Zero | State::Int | State::Frac, b'e' | b'E') => State::Exp,
-            (State::Exp, b'+' | b'-') => State::ExpSign,
-            (State::Exp | State::ExpSign | State::ExpDigits, b'0'..=b'9') => {
-                let exponent = self.exponent * 10 + u32::from(byte - b'0');
-                return Some(Scanner {
-                    state: State::ExpDigits,
-                    exponent: exponent.min(LONG_EXPONENT),
-                });
+        match (self, byte) {
+            (State::Start, b'-') => Some(State::Minus),
+            (State::Start | State::Minus, b'0') => Some(State::Zero),
+            (State::Start | State::Minus, b'1'..=b'9') => Some(State::Int),
+            (State::Int, b'0'..=b'9') => Some(State::Int),
+            (State::Zero | State::Int, b'.') => Some(State::Point),
+            (State::Point | State::Frac, b'0'..=b'9') => Some(State::Frac),
+            (State::Zero | State::Int | State::Frac, b'e' | b'E') => Some(State::Exp),
+            (State::Exp, b'+' | b'-') => Some(State::ExpSign),
+            (State::Exp | State::ExpSign, b'0'..=b'9') => {
+                Some(State::ExpDigits(u32::from(byte - b'0')))
             }
-            _ => return None,
-        };
-        Some(Scanner { state, ..self })
-    }
-
-    // The kind of the number that the bytes so far are, if they are one.
-    fn kind(self) -> Option<NumberKind>
-        ensures { result ≡ kind_in self.state }
-    {
-        match self.state {
-            State::Zero | State::Int => Some(NumberKind::Whole),
-            State::Frac | State::ExpDigits => Some(NumberKind::Decimal),
+            (State::ExpDigits(size), b'0'..=b'9') => {
+                let size = size
+                    .saturating_mul(10)
+                    .saturating_add(u32::from(byte - b'0'));
+                Some(State::ExpDigits(size.min(LONG_EXPONENT)))
+            }
             _ => None,
         }
     }
@@ -76,11 +59,12 @@ impl Scanner {
     fn finish(self, at: usize, end: usize) -> Result<(usize, NumberKind), Fault>
         ensures { Finished self at end result }
     {
-        let kind = self.kind().ok_or(Fault::BadText(at))?;
-        if self.exponent >= LONG_EXPONENT {
-            return Err(Fault::LongNumber(at));
+        match self {
+            State::Zero | State::Int => Ok((end, NumberKind::Whole)),
+            State::ExpDigits(LONG_EXPONENT..) => Err(Fault::LongNumber(at)),
+            State::Frac | State::ExpDigits(_) => Ok((end, NumberKind::Decimal)),
+            _ => Err(Fault::BadText(at)),
         }
-        Ok((end, kind))
     }
 }
 
@@ -88,20 +72,18 @@ impl Scanner {
 pub fn scan(text: &[u8], at: usize) -> Result<(usize, NumberKind), Fault>
     ensures { Scanned text.now at result }
 {
-    let mut scanner = Scanner {
-        state: State::Start,
-        exponent: 0,
-    };
-    for end in at..text.len() {
-        let Some(next) = scanner.step(text[end]) else {
-            return scanner.finish(at, end);
+    let rest = &text[at.min(text.len())..];
+    let mut state = State::Start;
+    for (taken, byte) in rest.iter().enumerate() {
+        let Some(next) = state.step(*byte) else {
+            return state.finish(at, at + taken);
         };
-        if end - at >= LONGEST_NUMBER {
+        if taken >= LONGEST_NUMBER {
             return Err(Fault::LongNumber(at));
         }
-        scanner = next;
+        state = next;
     }
-    scanner.finish(at, at.max(text.len()))
+    state.finish(at, at + rest.len())
 }
 
 // The contract of `scan` has one answer at each place of each text.

@@ -1,17 +1,10 @@
 // Runs of bytes.
-ghost use Rattle.std.specs.Prelude.{◌≤◌, length};
-ghost use Rattle.text.specs.Cuts.{RunTo};
+ghost use Rattle.text.specs.Cuts.{Front};
 
-// Where the run of bytes from `at` on ends that pass.
-pub(crate) fn run_end<F: Fn(u8) -> bool>(text: &[u8], at: usize, passes: F) -> usize
-    requires within { at ≤ length text.now }
-    requires callable { F.IsAlwaysCallable passes }
-    ensures { RunTo (F.post passes) text.now at result }
+// How many bytes at the front pass, up to the first that does not.
+pub(crate) fn run_len<F: Fn(u8) -> bool>(text: &[u8], passes: F) -> usize
+    requires { F.IsAlwaysCallable passes }
+    ensures { Front (F.post passes) text.now result }
 {
-    for end in at..text.len() {
-        if !passes(text[end]) {
-            return end;
-        }
-    }
-    text.len()
+    text.iter().position(|b| !passes(*b)).unwrap_or(text.len())
 }

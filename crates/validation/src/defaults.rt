@@ -6,29 +6,25 @@ use text::decimal;
 
 // Whether the value at the cursor, which holds no variable, fits the type.
 pub fn fits<S: Source>(source: &S, at: usize, shape: Shape) -> bool {
-    let kind = source.kind(at);
-    if kind == Kind::Null {
-        return !shape.is_non_null();
-    }
-    if !shape.is_list() {
-        return scalar_fits(source, at, shape.base);
-    }
-    let item = shape.item();
-    if kind != Kind::List {
-        // Any other value counts as a list of one.
-        return fits(source, at, item);
-    }
-    let mut span = source.inside(at);
-    while let Some((at, rest)) = source.next(span) {
-        if !fits(source, at, item) {
-            return false;
+    match source.kind(at) {
+        Kind::Null => !shape.is_non_null(),
+        _ if !shape.is_list() => scalar_fits(source, at, shape.base),
+        Kind::List => {
+            // No `all`: what a closure that calls `fits` leaves of its captures is not known at the next turn.
+            for at in source.values(at) {
+                if !fits(source, at, shape.item()) {
+                    return false;
+                }
+            }
+            true
         }
-        span = rest;
+        // Any other value counts as a list of one.
+        _ => fits(source, at, shape.item()),
     }
-    true
 }
 
 // Whether a value that is neither null nor at a list type fits.
+// A walk has its own test: it makes the body of a record, and bounds whole numbers at Float by the language.
 fn scalar_fits<S: Source>(source: &S, at: usize, base: Base) -> bool {
     match (base, source.kind(at)) {
         (Base::Int, Kind::Whole) => scalars::int(source.text(at)),

@@ -16,6 +16,7 @@ pub enum MakeFault {
     DefaultCycle(usize),
 }
 
+// By hand: a derived `From` does not promise which case it gives.
 impl From<Fault> for MakeFault {
     ghost from_gives = { λ e r. r ≡ TextFault e };
 

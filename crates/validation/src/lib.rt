@@ -54,10 +54,7 @@ fn repeated<R: Named>(records: &[R]) -> Option<&R> {
 
 // Refuses the name at the place, if there is one.
 fn no_repeated(place: Option<usize>) -> Result<(), Fault> {
-    match place {
-        Some(place) => Err(Fault::RepeatedName(place)),
-        None => Ok(()),
-    }
+    place.map_or(Ok(()), |place| Err(Fault::RepeatedName(place)))
 }
 
 // No scalar's name is built in or an earlier scalar's.
@@ -102,7 +99,7 @@ fn defaults_fit(operation: &Operation<'_>) -> Result<(), MakeFault> {
         if let Some(at) = variable.default {
             let literal = operation.literal(at);
             if tree.holds_variable(at) || !defaults::fits(&literal, at, variable.ty.shape) {
-                return Err(MakeFault::BadDefault(tree.place(at)));
+                return Err(MakeFault::BadDefault(literal.place(at)));
             }
         }
     }

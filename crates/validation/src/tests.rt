@@ -1,11 +1,11 @@
 // What is refused, by number and place.
 use crate::fault::MakeFault;
 use crate::{make_operation, make_schema};
-use reader::document::{JsonText, read};
+use reader::document::{JsonText, LiteralText, read};
 use std::alloc::Global;
 use text::fault::Fault;
 
-// The number and the place of a refusal.
+// The number of a refusal, 0 for want of memory, and its place.
 fn refusal<T: Drop>(made: Result<T, MakeFault>) -> Option<(u8, usize)> {
     made.err()
         .map(|fault| (fault.number().unwrap_or(0), fault.place()))
@@ -101,6 +101,25 @@ fn json_members_and_ends(rt: HostRuntime) {
     assert_eq!(rt; json_refusal(heap, b"[1,]"), Some((1, 3)));
     assert_eq!(rt; json_refusal(heap, b"[1"), Some((1, 2)));
     assert_eq!(rt; json_refusal(heap, b"1 2"), Some((1, 2)));
+}
+
+fn literal_refusal(heap: Global, text: &[u8]) -> Option<(u8, usize)> {
+    let made: Result<LiteralText<'_>, Fault> = read(heap, text);
+    refusal(made.map_err(MakeFault::Text))
+}
+
+#[test]
+fn literal_members_and_ends(rt: HostRuntime) {
+    let heap = rt.alloc();
+    assert_eq!(rt;
+        literal_refusal(heap, b"{a: {a: 1} b: [$c RED 2.5], }"),
+        None
+    );
+    assert_eq!(rt; literal_refusal(heap, b"{a: 1 a: 2}"), Some((4, 6)));
+    assert_eq!(rt; literal_refusal(heap, b"[1 2"), Some((1, 4)));
+    assert_eq!(rt; literal_refusal(heap, b"1 2"), Some((1, 2)));
+    assert_eq!(rt; literal_refusal(heap, b"[01]"), Some((1, 1)));
+    assert_eq!(rt; literal_refusal(heap, b"\"\"\"a\"\"\""), Some((1, 0)));
 }
 
 #[test]

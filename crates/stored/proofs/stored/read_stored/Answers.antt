@@ -1,7 +1,7 @@
 use Rattle.std.proofs.Common.{refl, arith}
-use Rattle.std.proofs.lemmas.Result.{err_from_is_err_and}
 use Rattle.text.specs.declared.fault.Fault.TheVariants.{BadText}
 use Rattle.stored.specs.Outcomes.{all_long}
+use Rattle.text.proofs.Handed.{handed_on}
 use Rattle.stored.proofs.CuOne.{accepted, refused, refused_members}
 use Rattle.stored.proofs.stored.read_stored.Goals as goal
 
@@ -10,10 +10,9 @@ returns-then-bytes-gt-LONGEST_SHEET c = refused c.args.bytes.now (BadText 0) (al
 
 pub returns-in_err-members : goal.returns-in_err-members
 returns-in_err-members c =
-    let p = err_from_is_err_and c.from_residual.result c.from_residual.ensures.1 in
-    rw (p.1, p.2) (refused_members c.args.bytes.now _ (omega arith) c.in_err-members.ensures.told)
+    rw (handed_on c.from_residual.ensures.1) (refused_members c.args.bytes.now _ (omega arith) c.in_err-members.ensures)
 
 pub returns : goal.returns
 returns c =
-    let m = c.in_ok-members.ensures.told.0 in
+    let m = c.in_ok-members.ensures.0 in
     (refl, accepted c.args.bytes.now m.0 (omega arith) m.1)

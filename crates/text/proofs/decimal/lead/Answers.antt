@@ -1,17 +1,17 @@
-use Rattle.std.proofs.Common.{[], ◌∷◌, arith}
-use Rattle.text.proofs.LexBase.{begins, begins_not, begins_fits}
-use Rattle.text.proofs.NormValues.{led_minus, led_plus, led_other}
+use Rattle.std.proofs.Common.{[], ◌∷◌, false, sym, subst, ◌∙◌}
+use Rattle.std.proofs.lemmas.Bool.Decides.{Decides-eqb}
+use Rattle.std.proofs.lemmas.Slice.Eq.{strip_prefix_is}
+use Rattle.std.specs.Option.{unwrap_or}
+use Rattle.text.specs.NormalForm.{Signs, Led}
+use Rattle.text.proofs.NormValues.{led_minus, led_rest}
 use Rattle.text.proofs.decimal.lead.Goals as goal
 
-pub returns-then-starts_with : goal.returns-then-starts_with
-returns-then-starts_with c =
-    let m = begins c.args.text.now (45 ∷ []) c.args.at c.starts_with.ensures.value c.if-starts_with.true in
-    led_minus c.args.text.now c.args.at (omega (arith, begins_fits c.args.text.now (45 ∷ []) c.args.at (omega arith) m)) m
+pub returns-then-negative : goal.returns-then-negative
+returns-then-negative c = led_minus c.args.power.now c.sign-negative.result.1.now (subst (λ b. Signs c.args.power.now b c.sign-negative.result.1.now) c.if-negative.true c.sign-negative.ensures)
 
-pub returns-then-starts_with-2 : goal.returns-then-starts_with-2
-returns-then-starts_with-2 c =
-    let p = begins c.args.text.now (43 ∷ []) c.args.at c.starts_with-else-starts_with.ensures.value c.if-starts_with-2.true in
-    led_plus c.args.text.now c.args.at (omega (arith, begins_fits c.args.text.now (43 ∷ []) c.args.at (omega arith) p)) p
-
-pub returns-else-starts_with-2 : goal.returns-else-starts_with-2
-returns-else-starts_with-2 c = led_other c.args.text.now c.args.at c.requires (begins_not c.args.text.now (45 ∷ []) c.args.at c.starts_with.ensures.value c.if-starts_with.false) (begins_not c.args.text.now (43 ∷ []) c.args.at c.starts_with-else-starts_with.ensures.value c.if-starts_with-2.false)
+pub returns-else-negative : goal.returns-else-negative
+returns-else-negative c =
+    let s = subst (λ b. Signs c.args.power.now b c.sign-negative.result.1.now) c.if-negative.false c.sign-negative.ensures in
+    let n = strip_prefix_is Decides-eqb c.sign-negative.result.1.now (43 ∷ []) c.strip_prefix.result c.strip_prefix.ensures.cases in
+    rw c.unwrap_or.ensures
+    (subst (λ l. Led l false (unwrap_or c.strip_prefix.result c.sign-negative.result.1).now) s.0 (led_rest c.sign-negative.result.1 (λ r e. s.1 r (sym s.0 ∙ e)) c.strip_prefix.result n))

@@ -5,6 +5,6 @@ use Rattle.text.proofs.json.literal.Goals as goal
 
 pub returns : goal.returns
 returns c =
-    let here = literal_here c.args.text.now c.args.start c.args.word.now c.requires.start_in_bounds c.requires.literal_name c.requires.start_value in
-    let none = no_literal c.args.text.now c.args.start c.args.word.now c.requires.start_in_bounds c.requires.literal_name c.requires.start_value in
-    spelled_told Json c.args.text.now c.args.start c.args.word.now _ (literal_some c.requires.literal_name) here none c.spelled.result c.spelled.ensures
+    let here = literal_here c.args.text.now c.args.start c.args.word.now c.requires.within c.requires.word c.requires.first in
+    let none = no_literal c.args.text.now c.args.start c.args.word.now c.requires.within c.requires.word c.requires.first in
+    spelled_told Json c.args.text.now c.args.start c.args.word.now _ (literal_some c.requires.word) here none c.spelled.result c.spelled.ensures

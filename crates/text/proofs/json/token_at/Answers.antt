@@ -21,14 +21,14 @@ returns-then-begins_number c =
     let f = subst NumberFirst (b.1 0) c.if-begins_number.ensures in
     numeral_told Json c.args.text.now c.args.start (number_here c.args.text.now c.args.start) (no_number c.args.text.now c.args.start b.0 f) c.numeral.result c.numeral.ensures
 
-pub literal-requires-clause-literal_name : goal.literal-requires-clause-literal_name
-literal-requires-clause-literal_name c = true_name
+pub literal-requires-clause-word : goal.literal-requires-clause-word
+literal-requires-clause-word c = true_name
 
-pub literal-requires-in-102-clause-literal_name : goal.literal-requires-in-102-clause-literal_name
-literal-requires-in-102-clause-literal_name c = false_name
+pub literal-requires-in-102-clause-word : goal.literal-requires-in-102-clause-word
+literal-requires-in-102-clause-word c = false_name
 
-pub literal-requires-in-110-clause-literal_name : goal.literal-requires-in-110-clause-literal_name
-literal-requires-in-110-clause-literal_name c = null_name
+pub literal-requires-in-110-clause-word : goal.literal-requires-in-110-clause-word
+literal-requires-in-110-clause-word c = null_name
 
 pub returns-in-34 : goal.returns-in-34
 returns-in-34 c =

@@ -1,5 +1,6 @@
+use Rattle.std.proofs.Common.{◌+◌}
 use Rattle.text.proofs.ScanRuns.{Reached}
 use Rattle.text.proofs.number.scan.Given as goal
 
-abbrev pub invariant-loop-end : goal.invariant-loop-end
-invariant-loop-end l = Reached l.text l.at l.end l.scanner.state l.scanner.exponent
+abbrev pub invariant-loop-taken : goal.invariant-loop-taken
+invariant-loop-taken l = Reached l.text l.at (l.at + l.taken) l.state

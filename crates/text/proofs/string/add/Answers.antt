@@ -1,6 +1,6 @@
 use Rattle.std.proofs.Common.{◌≡◌, vec_items, subst, arith}
+use Rattle.text.proofs.Handed.{handed_on}
 use Rattle.text.specs.declared.fault.Fault.TheVariants.{BadText}
-use Rattle.std.proofs.lemmas.Result.{err_from_is_err_and}
 use Rattle.text.specs.StringDecode.{Told}
 use Rattle.text.specs.StringGrammar.{Char}
 use Rattle.text.proofs.StrRuns.{add_start, add_more, add_all, add_bad, so_far}
@@ -11,10 +11,9 @@ loop-at-init c = add_start c.args.language c.args.raw.now (vec_items c.args.out.
 
 pub returns-in_err-c : goal.returns-in_err-c
 returns-in_err-c c =
-    let p = err_from_is_err_and c.from_residual.result c.from_residual.ensures.1 in
     let n = subst (Told (Char c.args.language) c.args.raw.now c.loop-at.at) c.in_err-c.ensures.ok_part c.next.ensures in
     let f : c.in_err-c.field-0.0 ≡ BadText c.loop-at.at = grind (arith, c.in_err-c.ensures.value, c.in_err-c.ensures.ok_part) in
-    rw (p.1, p.2, f) (add_bad c.loop-at.invariant c.loop-at-test.true n, so_far c.loop-at.invariant)
+    rw (handed_on c.from_residual.ensures.1, f) (add_bad c.loop-at.invariant c.loop-at-test.true n, so_far c.loop-at.invariant)
 
 pub loop-at-preserved : goal.loop-at-preserved
 loop-at-preserved c =

@@ -1,6 +1,8 @@
-use Rattle.std.proofs.Common.{◌+◌, sym, subst, ◌∙◌, ⊎_elim, arith, rules}
+use Rattle.std.proofs.Common.{◌+◌, None, Some, sym, subst, ◌∙◌, ⊎_elim, arith, rules}
 use Rattle.text.specs.StringDecode.{Exactly}
-use Rattle.text.specs.StringGrammar.{Escape, quote, backslash, slash, backspace, form_feed, line_feed, carriage_return, tab}
+use Rattle.text.specs.StringGrammar.{Code, Escape, quote, backslash, slash, backspace, form_feed, line_feed, carriage_return, tab}
+use Rattle.std.proofs.lemmas.List.{take_rest}
+use Rattle.text.proofs.StrHexes.{exactly_at}
 use Rattle.text.proofs.StrChars.{escape_end, escape_short, escape_u, escape_other}
 use Rattle.text.proofs.string.escape.Goals as goal
 
@@ -31,8 +33,16 @@ returns-in-114 c = let b = c.in_ok-letter.ensures.lookup.3 in escape_short c.arg
 pub returns-in-116 : goal.returns-in-116
 returns-in-116 c = let b = c.in_ok-letter.ensures.lookup.3 in escape_short c.args.text.now c.args.at b.0 (sym (b.1 0) ∙ c.in-116.is) tab
 
-pub returns-in-117 : goal.returns-in-117
-returns-in-117 c = let b = c.in_ok-letter.ensures.lookup.3 in escape_u c.args.text.now c.args.at b.0 (sym (b.1 0) ∙ c.in-117.is) c.unicode.result c.unicode.ensures
+pub returns-in_err-c-in-117 : goal.returns-in_err-c-in-117
+returns-in_err-c-in-117 c =
+    let b = c.in_ok-letter.ensures.lookup.3 in
+    let n = c.in_err-c-in-117.ensures in
+    rw c.from_residual-in_err-c-in-117.ensures (escape_u c.args.text.now c.args.at b.0 (sym (b.1 0) ∙ c.in-117.is) None (λ y r x. n y r (subst (λ l. Code l y r) (sym (take_rest c.args.text.now (c.args.at + 1))) x)))
+
+pub returns-in_ok-c-in-117 : goal.returns-in_ok-c-in-117
+returns-in_ok-c-in-117 c =
+    let b = c.in_ok-letter.ensures.lookup.3 in
+    escape_u c.args.text.now c.args.at b.0 (sym (b.1 0) ∙ c.in-117.is) (Some (c.in_ok-c-in-117.c, c.args.at + 1 + c.in_ok-c-in-117.size)) (exactly_at Code c.args.text.now (c.args.at + 1) (take_rest c.args.text.now (c.args.at + 1)) c.in_ok-c-in-117.ensures)
 
 pub returns-in_default : goal.returns-in_default
 returns-in_default c =

@@ -1,7 +1,7 @@
 use Rattle.std.proofs.Common.{◌≡◌, ℕ, ◌<◌, Some, length, vec_items, sym, ◌∙◌, arith}
 use Rattle.std.proofs.lemmas.Slice.Eq.{slice_eq-Decides}
 use Rattle.std.proofs.lemmas.Bool.{both_ways}
-use Rattle.names.specs.Bits.{hash_of_lem}
+use Rattle.names.specs.Bits.{name_hash}
 use Rattle.names.specs.Index.{name_at, Sound, LeafTold}
 use Rattle.names.proofs.Walk.{walk_start, walk_on, walk_ends, name_read, hash_read, child_read, no_child}
 use Rattle.names.proofs.names.Names.leaf.Goals as goal
@@ -24,7 +24,7 @@ returns-then-eq c s e =
     }
 
 -- the link that was read has another name
-other : (c : Joined-else-link-hash) → Sound c.args.holder.text.now c.args.holder.pool.now (vec_items c.args.self.now.links) c.args.base → c.args.hash ≡ hash_of_lem c.args.name.now
+other : (c : Joined-else-link-hash) → Sound c.args.holder.text.now c.args.holder.pool.now (vec_items c.args.self.now.links) c.args.base → c.args.hash ≡ name_hash c.args.name.now
     → name_at c.args.holder.text.now c.args.holder.pool.now (vec_items c.args.self.now.links) c.loop-holder.at ≡ c.args.name.now → ⊥
 other c s e same =
     let w = c.loop-holder.invariant in

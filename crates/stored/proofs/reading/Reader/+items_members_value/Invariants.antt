@@ -1,4 +1,5 @@
 use Rattle.std.proofs.Common.{◌≡◌, ◌+◌, ◌-◌, ◌*◌, vec_items}
+use Rattle.stored.specs.Told.{Same}
 use Rattle.stored.proofs.RdSteps.{SofarItems, SofarMembers}
 use Rattle.stored.proofs.reading.Reader.+items_members_value.Given as goal
 
@@ -13,7 +14,7 @@ decreases-value l = 2 * l.levels
 
 abbrev pub invariant-items-loop-next : goal.invariant-items-loop-next
 invariant-items-loop-next l =
-    SofarItems l.self.bytes.now l.levels l.from l.next l.to × (vec_items l.self.names.links ≡ vec_items l.initial.self.names.links) × (l.self.bytes ≡ l.initial.self.bytes)
+    SofarItems l.initial.self.bytes.now l.levels l.from l.next l.to × Same l.initial.self l.self
 
 abbrev pub decreases-items-loop-next : goal.decreases-items-loop-next
 decreases-items-loop-next l = l.to - l.next
