@@ -1,12 +1,18 @@
 // The answers to cases.
-use crate::table::Case;
+use crate::table::{Asked, Case, Reading};
+use crate::value;
 use coercion::rule::AcceptAll;
+use reader::document::{JsonText, LiteralText, read};
 use schema::definition::Schema;
 use schema::layer::Layer;
 use schema::operation::Operation;
 use sheet::fault::RequestFault;
 use sheet::held::Sheet;
+use source::limits::DEEPEST;
+use source::raw::Source;
 use std::alloc::{AllocError, Global};
+use stored::stored::read_stored;
+use text::fault::Fault;
 use validation::fault::MakeFault;
 use validation::{make_operation, make_schema};
 
@@ -66,10 +72,43 @@ fn request(heap: Global, case: &Case) -> Result<Result<String, AllocError>, Make
     })
 }
 
-// What the case comes to.
-pub fn answer(heap: Global, case: &Case) -> Result<String, AllocError> {
+// What the request comes to.
+fn outcome(heap: Global, case: &Case) -> Result<String, AllocError> {
     match request(heap, case) {
         Ok(said) => said,
         Err(fault) => refusal(heap, fault.number(), fault.layer(), fault.place()),
+    }
+}
+
+// The value of a source, as a line shows it.
+fn shown<S: Source>(heap: Global, source: &S) -> Result<String, Fault> {
+    let mut out = String::from_str(heap, "ok ")?;
+    value::add(source, source.root(), DEEPEST + 1, &mut out)?;
+    Ok(out)
+}
+
+// What a text is, read so.
+fn value_of(heap: Global, reading: Reading, text: &[u8]) -> Result<String, Fault> {
+    match reading {
+        Reading::Json => {
+            let read: JsonText<'_> = read(heap, text)?;
+            shown(heap, &read.value())
+        }
+        Reading::Literal => {
+            let read: LiteralText<'_> = read(heap, text)?;
+            shown(heap, &read.value())
+        }
+        Reading::Sheet => shown(heap, &read_stored(heap, text)?),
+    }
+}
+
+// What the case comes to.
+pub fn answer(heap: Global, asked: &Asked) -> Result<String, AllocError> {
+    match asked {
+        Asked::Request(case) => outcome(heap, case),
+        Asked::Text(reading, text) => match value_of(heap, *reading, text.as_slice()) {
+            Ok(said) => Ok(said),
+            Err(fault) => refusal(heap, fault.number(), Layer::Text, fault.place()),
+        },
     }
 }

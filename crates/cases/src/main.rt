@@ -1,22 +1,24 @@
 // Runs a table of cases, one to a line of standard input, and answers each with a line.
-// A case has five fields, with a tab between them: title, schema, operation, capacity and variables.
+// A request has five fields, with a tab between them: title, schema, operation, capacity and variables.
+// A text has three: title, what it is (`json`, `literal` or `sheet`) and the text, which is read and shown.
 // In the texts `^N^text^` stands for `text` N times, and `\xHH` for a byte.
 #![tactic(auto)]
 
 mod answer;
 mod table;
+mod value;
 
 use anyhow::anyhow;
 use std::alloc::Global;
 use std::io::{BufRead, BufReader};
-use table::Misread;
+use table::{Line, Misread};
 
 // The title of a case and its answer; a line that is not understood is an error.
 fn line(heap: Global, text: &[u8]) -> anyhow::Result<String> {
     match table::read(heap, text) {
-        Ok(case) => {
-            let title = answer::characters(heap, case.title.as_slice())?;
-            let answer = answer::answer(heap, &case)?;
+        Ok(Line { title, asked }) => {
+            let title = answer::characters(heap, title.as_slice())?;
+            let answer = answer::answer(heap, &asked)?;
             Ok(format!(in heap; "{title}: {answer}")?)
         }
         Err(Misread::Wrong) => Ok(String::from_str(heap, "error")?),

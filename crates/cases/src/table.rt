@@ -5,13 +5,34 @@ use hex::FromHex;
 use std::alloc::{AllocError, AllocFailed, Global};
 use std::str;
 
+// A request: its schema, its operation and its variables are made, and loaded into a sheet of that capacity.
 #[derive(Drop)]
 pub struct Case {
-    pub title: Vec<u8>,
     pub schema: Vec<u8>,
     pub operation: Vec<u8>,
     pub capacity: usize,
     pub variables: Vec<u8>,
+}
+
+// What a text is read as.
+#[derive(Clone, Copy)]
+pub enum Reading {
+    Json,
+    Literal,
+    Sheet,
+}
+
+#[derive(Drop)]
+pub enum Asked {
+    Request(Case),
+    Text(Reading, Vec<u8>),
+}
+
+// A case, and its title.
+#[derive(Drop)]
+pub struct Line {
+    pub title: Vec<u8>,
+    pub asked: Asked,
 }
 
 #[derive(Clone, Copy)]
@@ -105,18 +126,40 @@ fn field(heap: Global, text: &[u8]) -> Result<Vec<u8>, Misread> {
     Ok(out)
 }
 
-// The case that a line writes.
-pub fn read(heap: Global, line: &[u8]) -> Result<Case, Misread> {
-    let (title, rest) = cut(line, b'\t')?;
-    let (schema, rest) = cut(rest, b'\t')?;
+// The request that the fields after a title write.
+fn request(heap: Global, fields: &[u8]) -> Result<Case, Misread> {
+    let (schema, rest) = cut(fields, b'\t')?;
     let (operation, rest) = cut(rest, b'\t')?;
     let (capacity, variables) = cut(rest, b'\t')?;
     let capacity = number(capacity).ok_or(Misread::Wrong)?;
     Ok(Case {
-        title: title.to_vec(heap)?,
         schema: field(heap, schema)?,
         operation: field(heap, operation)?,
         capacity,
         variables: field(heap, variables)?,
     })
+}
+
+// The text that the two fields after a title write.
+fn text(heap: Global, reading: &[u8], text: &[u8]) -> Result<Asked, Misread> {
+    let reading = match reading {
+        b"json" => Reading::Json,
+        b"literal" => Reading::Literal,
+        b"sheet" => Reading::Sheet,
+        _ => return Err(Misread::Wrong),
+    };
+    Ok(Asked::Text(reading, field(heap, text)?))
+}
+
+// The case that a line writes.
+pub fn read(heap: Global, line: &[u8]) -> Result<Line, Misread> {
+    let (title, fields) = cut(line, b'\t')?;
+    let (first, rest) = cut(fields, b'\t')?;
+    let asked = if rest.contains(&b'\t') {
+        Asked::Request(request(heap, fields)?)
+    } else {
+        text(heap, first, rest)?
+    };
+    let title = title.to_vec(heap)?;
+    Ok(Line { title, asked })
 }
