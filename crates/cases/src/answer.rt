@@ -88,7 +88,7 @@ fn shown<S: Source>(heap: Global, source: &S) -> Result<String, Fault> {
 }
 
 // What a text is, read so.
-fn value_of(heap: Global, reading: Reading, text: &[u8]) -> Result<String, Fault> {
+pub(crate) fn value_of(heap: Global, reading: Reading, text: &[u8]) -> Result<String, Fault> {
     match reading {
         Reading::Json => {
             let read: JsonText<'_> = read(heap, text)?;

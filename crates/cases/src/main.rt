@@ -6,6 +6,8 @@
 
 mod answer;
 mod table;
+#[cfg(test)]
+mod tests;
 mod value;
 
 use anyhow::anyhow;
