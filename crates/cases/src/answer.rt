@@ -103,7 +103,7 @@ pub(crate) fn value_of(heap: Global, reading: Reading, text: &[u8]) -> Result<St
 }
 
 // What the case comes to.
-pub fn answer(heap: Global, asked: &Asked) -> Result<String, AllocError> {
+pub(crate) fn answer(heap: Global, asked: &Asked) -> Result<String, AllocError> {
     match asked {
         Asked::Request(case) => outcome(heap, case),
         Asked::Text(reading, text) => match value_of(heap, *reading, text.as_slice()) {

@@ -152,7 +152,7 @@ fn text(heap: Global, reading: &[u8], text: &[u8]) -> Result<Asked, Misread> {
 }
 
 // The case that a line writes.
-pub fn read(heap: Global, line: &[u8]) -> Result<Line, Misread> {
+pub(crate) fn read(heap: Global, line: &[u8]) -> Result<Line, Misread> {
     let (title, fields) = cut(line, b'\t')?;
     let (first, rest) = cut(fields, b'\t')?;
     let asked = if rest.contains(&b'\t') {

@@ -25,8 +25,8 @@ fn add_decimal<S: Source>(source: &S, at: usize, out: &mut String) -> Result<(),
     Ok(())
 }
 
-// Adds the value at the cursor, with `levels` left for it and what is inside it.
-pub fn add<S: Source>(
+// Adds the value at the cursor, with `levels` left for it and what is inside it: a source has no more than these.
+pub(crate) fn add<S: Source>(
     source: &S,
     at: usize,
     levels: usize,

@@ -164,4 +164,5 @@ passes_one = record {
   unexpected = λ D old new f h. (h.3, h.4);
   eat = λ D old new start h. eat_passed D old new start h.0 h.1 h.2 h.3 h.4;
   left = λ D old new h. (h.3, h.4);
+  refused = λ D old new f h. (h.3, h.4);
 }

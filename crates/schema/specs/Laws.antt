@@ -50,3 +50,4 @@ pub record PassesOne : Type 0 where
   pub unexpected : (D : View → Bool) (old new : Tokens) (f : Fault) → ExpectTold (Test D) old new (Err f) → Stays old new
   pub eat : (D : View → Bool) (old new : Tokens) (start : ℕ) → EatTold (Test D) old new (Ok (Some start)) → PassedBy D old new start
   pub left : (D : View → Bool) (old new : Tokens) → EatTold (Test D) old new (Ok None) → Stays old new
+  pub refused : (D : View → Bool) (old new : Tokens) (f : Fault) → EatTold (Test D) old new (Err f) → Stays old new
