@@ -1,3 +1,4 @@
+pub mod Documents
 pub mod Laws
 pub mod Reading
 pub mod Words
