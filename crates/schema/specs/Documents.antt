@@ -1,7 +1,7 @@
 -- What schema and operation texts say: their definitions, with the places of their names (sections 2.3, 2.10 to 2.12 and 3.4 to 3.13).
 use Rattle.std.specs.Prelude.{ℕ, Bool, List, [], ◌∷◌, ◌++◌}
 use Rattle.std.proofs.Math.Option.{Option}
-use Rattle.model.specs.Values.{Name, Raw, Ty, Field, Def, int_d, enum_d, input_d, custom_d, output_d, TypeDef, Location, Directive, Schema, Variable, Use, Operation}
+use Rattle.model.specs.Values.{Name, Raw, Ty, Field, enum_d, input_d, custom_d, output_d, TypeDef, Location, Directive, Schema, Variable, Use, Operation}
 
 -- a name and its place
 pub record Label : Type 0 where
