@@ -13,5 +13,7 @@ pub mod Likeness
 pub mod Limits
 pub mod Calls
 pub mod Twins
+pub mod Checking
+pub mod Rules
 pub mod Laws
 pub mod Cases
