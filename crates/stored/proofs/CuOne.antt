@@ -17,7 +17,7 @@ use Rattle.stored.specs.Frames.{past}
 use Rattle.stored.specs.Cursors.{shown, shown_all, shown_mems, at_root, Held}
 
 mutual
-  shown-shows : (p f : ℕ) (r : Rec) → Shows r (shown p f r)
+  pub shown-shows : (p f : ℕ) (r : Rec) → Shows r (shown p f r)
   shown-shows p f r_null = s_null
   shown-shows p f (r_plain x) = s_plain refl
   shown-shows p f (r_list rs) = s_list (shown-shows_all f rs)
@@ -27,7 +27,7 @@ mutual
   shown-shows_all i r_nil = s_nil
   shown-shows_all i (r_cons r rs) = s_cons (shown-shows i (i + 6) r) (shown-shows_all (i + length (encode r)) rs)
 
-  shown-shows_mems : (i : ℕ) (ms : Rmems) → ShowsMems ms (shown_mems i ms)
+  pub shown-shows_mems : (i : ℕ) (ms : Rmems) → ShowsMems ms (shown_mems i ms)
   shown-shows_mems i r_end = s_end
   shown-shows_mems i (r_mem n r ms) = s_mem (shown-shows (past i n) (past i n + 6) r) (shown-shows_mems (past i n + length (encode r)) ms)
 
@@ -65,7 +65,7 @@ reads_once_lem bytes o p x y = one_outcome x y
 pub reads_back_lem : ReadsBack
 reads_back_lem ms l n = sheet_complete (encode_mems ms) ms n (record { fits = limits_fit_mems 1 ms l.2; bytes_are = refl }) l
 
-sheet_within : (ms : Rmems) → RecLimits 0 (r_object ms) → length (encode_mems ms) ≤ 65536 → Within (encode_mems ms) ms
+pub sheet_within : (ms : Rmems) → RecLimits 0 (r_object ms) → length (encode_mems ms) ≤ 65536 → Within (encode_mems ms) ms
 sheet_within ms l n = record { short = n; decodes = record { fits = limits_fit_mems 1 ms l.2; bytes_are = refl }; within = l }
 
 pub accepts_back : AcceptsBack

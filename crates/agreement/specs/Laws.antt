@@ -1,0 +1,55 @@
+-- What the sources of raw values agree on.
+use Rattle.std.specs.Prelude.{◌≡◌, ℕ, ◌≤◌, List, length}
+use Rattle.std.proofs.Math.Option.{some}
+use Rattle.model.specs.Values.{Form, Raw, Ty, Schema, Variable, Rmems, r_object}
+use Rattle.model.specs.Records.{encode_mems}
+use Rattle.model.specs.Refusals.{ok, Here}
+use Rattle.model.specs.Coercion.{Rule, coerce_at, sheet_of}
+use Rattle.model.specs.Walk.{walk_at}
+use Rattle.model.specs.Back.{Shows}
+use Rattle.model.specs.Limits.{RecLimits, SchemaLimits, VariableLimits}
+use Rattle.model.specs.Calls.{Sheet, State, Call, load, bytes_of, answer, run}
+use Rattle.model.specs.Laws.{AllSourced}
+use Rattle.model.specs.Twins.{Twin, SameOut, TwinCalls, slots_given, slots_kept}
+use Rattle.stored.specs.Cursors.{Held}
+use Rattle.stored.specs.Laws.{Within}
+use Rattle.agreement.specs.Inputs.{Input, json_text, sheet_bytes, form_of, Says, Request, CallsOf}
+
+-- inputs that say the same but for places have the same outcome but for the places of refusals:
+-- coerced at a type and walked within the limits, in any one form; loaded, where their forms are the same; and over runs of calls
+pub record SourcesAgree : Type 0 where
+  pub coerced : (a b : Input) (x y : Raw) → Says a x → Says b y → Twin x y
+      → (k : ℕ) (S : Schema) (R : Rule) (p : Form) (h : Here) (t : Ty) → SameOut (coerce_at k S R p h x t) (coerce_at k S R p h y t)
+  pub walked : (a b : Input) (x y : Raw) → Says a x → Says b y → Twin x y
+      → (k : ℕ) (S : Schema) (R : Rule) (cap : ℕ) (p : Form) (h : Here) (t : Ty) (depth used lead : ℕ)
+      → SameOut (walk_at k S R cap p h x t depth used lead) (walk_at k S R cap p h y t depth used lead)
+  pub loaded : (a b : Input) (x y : Raw) → Says a x → Says b y → Twin x y → form_of a ≡ form_of b
+      → (k : ℕ) (S : Schema) (R : Rule) (cap : ℕ) (vs : List Variable) (st : State)
+      → SameOut (slots_given (answer k S R cap vs st (load (form_of a) x))) (slots_given (answer k S R cap vs st (load (form_of b) y)))
+  pub called : (qs rs : List Request) (cs es : List Call) → CallsOf qs cs → CallsOf rs es → TwinCalls cs es
+      → (k : ℕ) (S : Schema) (R : Rule) (cap : ℕ) (vs : List Variable) → slots_kept (run k S R cap vs cs) ≡ slots_kept (run k S R cap vs es)
+
+-- what stands at a cursor of a sheet's bytes is the same, but for places, as exactly what its record shows;
+-- so a JSON text that writes what a sheet's record shows leaves what the sheet's bytes leave
+pub record ShownAgree : Type 0 where
+  pub twins : (bytes : List ℕ) (at : ℕ) (x y : Raw) (h : Held bytes at y) → (Shows h.value x → Twin x y) × (Twin x y → Shows h.value x)
+  pub shown : (bytes : List ℕ) (ms : Rmems) (y : Raw) → Within bytes ms → Says (sheet_bytes bytes) y → Shows (r_object ms) y
+  pub loaded : (text bytes : List ℕ) (ms : Rmems) (x y : Raw) → Says (json_text text) x → Within bytes ms → Says (sheet_bytes bytes) y → Shows (r_object ms) x
+      → (k : ℕ) (S : Schema) (R : Rule) (cap : ℕ) (vs : List Variable) (st : State)
+      → SameOut (slots_given (answer k S R cap vs st (load (form_of (json_text text)) x))) (slots_given (answer k S R cap vs st (load (form_of (sheet_bytes bytes)) y)))
+
+-- one tree stands at the root of what was encoded within the limits, and the record shows it
+pub record EncodedStands : Type 0 where
+  pub stands : (ms : Rmems) → RecLimits 0 (r_object ms) → length (encode_mems ms) ≤ 65536 → (y : Raw) × Says (sheet_bytes (encode_mems ms)) y
+  pub shown : (ms : Rmems) → RecLimits 0 (r_object ms) → length (encode_mems ms) ≤ 65536 → (y : Raw) → Says (sheet_bytes (encode_mems ms)) y → Shows (r_object ms) y
+
+-- the bytes are those of a sheet within the limits, and what stands at their root, loaded where they fit, leaves equal bytes
+pub record ComesBack (k : ℕ) (S : Schema) (R : Rule) (vs : List Variable) (s : Sheet) : Type 0 where
+  pub within : Within (bytes_of vs s.slots) (sheet_of vs s.slots)
+  pub loaded : (y : Raw) → Says (sheet_bytes (bytes_of vs s.slots)) y → (cap : ℕ) → length (bytes_of vs s.slots) ≤ cap → cap ≤ 65536 → (st : State)
+      → (u : Sheet) × (answer k S R cap vs st (load (form_of (sheet_bytes (bytes_of vs s.slots))) y) ≡ ok u) × (bytes_of vs u.slots ≡ bytes_of vs s.slots)
+
+-- so it is of a sheet after any list of calls
+abbrev pub SheetsComeBack : Type 0
+SheetsComeBack = (k : ℕ) (S : Schema) (R : Rule) → SchemaLimits S → (vs : List Variable) → VariableLimits vs
+    → (cap : ℕ) → cap ≤ 65536 → (cs : List Call) → AllSourced cs → (s : Sheet) → run k S R cap vs cs ≡ some s → ComesBack k S R vs s

@@ -1,0 +1,24 @@
+// What JSON texts, literals and sheets' bytes agree on: a function for each law.
+#![tactic(auto)]
+
+ghost use Rattle.agreement.specs.Laws.{SourcesAgree, ShownAgree, EncodedStands, SheetsComeBack};
+
+// Inputs that say the same but for places have the same outcome in one form, whichever readers read them.
+pub fn sources_agree()
+    ensures { SourcesAgree }
+{}
+
+// A text says what a sheet's bytes say exactly where it writes what their record shows.
+pub fn shown_agree()
+    ensures { ShownAgree }
+{}
+
+// What was encoded within the limits stands in its bytes, and nothing else does.
+pub fn encoded_stands()
+    ensures { EncodedStands }
+{}
+
+// The bytes of a sheet, after any list of calls, are read, and loaded they leave equal bytes.
+pub fn sheets_come_back()
+    ensures { SheetsComeBack }
+{}
