@@ -2,6 +2,9 @@ pub mod Documents
 pub mod Outcomes
 pub mod Types
 pub mod Declarations
+pub mod Locations
+pub mod SchemaGrammar
+pub mod SchemaReading
 pub mod Laws
 pub mod Reading
 pub mod Words
