@@ -9,12 +9,12 @@ use Rattle.model.specs.Bounds.{Within, OfDefault, EachDefault}
 use Rattle.model.specs.Laws.{OutcomeStays, AllSettle}
 use Rattle.model.proofs.CoNames.{of_input}
 
-within_then : {X Y : Type 0} (o : Out X) (f : X → Out Y) → Within o → ((x : X) → Within (f x)) → Within (and_then o f)
+pub within_then : {X Y : Type 0} (o : Out X) (f : X → Out Y) → Within o → ((x : X) → Within (f x)) → Within (and_then o f)
 within_then (ok x) f h k = k x
 within_then (refused n) f h k = tt
 within_then beyond f h k = absurd h
 
-within_cond : {X : Type 0} (b : Bool) (o q : Out X) → Within o → Within q → Within (cond b o q)
+pub within_cond : {X : Type 0} (b : Bool) (o q : Out X) → Within o → Within q → Within (cond b o q)
 within_cond true o q h k = h
 within_cond false o q h k = k
 
@@ -31,25 +31,25 @@ mutual
   keep_all-within h nil = tt
   keep_all-within h (cons x xs) = within_then (keep h x) _ (keep-within h x) (λ r. within_then (keep_all h xs) _ (keep_all-within h xs) (λ rs. tt))
 
-  keep_mems-within : (h : Here) (ms : Mems) → Within (keep_mems h ms)
+  pub keep_mems-within : (h : Here) (ms : Mems) → Within (keep_mems h ms)
   keep_mems-within h end = tt
   keep_mems-within h (mem n x ms) = within_then (keep h x) _ (keep-within h x) (λ r. within_then (keep_mems h ms) _ (keep_mems-within h ms) (λ rs. tt))
 
-ruled-within : (R : Rule) (h : Here) (at : ℕ) (n : Name) (D : Def) (r : Rec) → Within (ruled R h at n D r)
+pub ruled-within : (R : Rule) (h : Here) (at : ℕ) (n : Name) (D : Def) (r : Rec) → Within (ruled R h at n D r)
 ruled-within R h at n D r = within_cond (passes R n D r) (ok r) _ tt tt
 
 or_within : (h : Here) (at : ℕ) (o : Option Plain) → Within (or_wrong h at o)
 or_within h at none = tt
 or_within h at (some x) = tt
 
-scalar_within : (R : Rule) (h : Here) (p : Form) (at : ℕ) (s : Scalar) (n : Name) (D : Def) → Within (scalar_named R h p at s n D)
+pub scalar_within : (R : Rule) (h : Here) (p : Form) (at : ℕ) (s : Scalar) (n : Name) (D : Def) → Within (scalar_named R h p at s n D)
 scalar_within R h p at s n D = within_then (or_wrong h at (scalar_at p D s)) _ (or_within h at (scalar_at p D s)) (λ x. ruled-within R h at n D (r_plain x))
 
-null_within : (h : Here) (at : ℕ) (b : Bool) → Within (null_at h at b)
+pub null_within : (h : Here) (at : ℕ) (b : Bool) → Within (null_at h at b)
 null_within h at true = tt
 null_within h at false = tt
 
-named_within : (R : Rule) (h : Here) (at : ℕ) (n : Name) (xs : Raws) (D : Def) → Within (list_named R h at n (keep_all h xs) D)
+pub named_within : (R : Rule) (h : Here) (at : ℕ) (n : Name) (xs : Raws) (D : Def) → Within (list_named R h at n (keep_all h xs) D)
 named_within R h at n xs int_d = tt
 named_within R h at n xs float_d = tt
 named_within R h at n xs string_d = tt

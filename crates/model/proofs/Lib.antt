@@ -10,6 +10,9 @@ pub mod CoOnce
 pub mod CoScalars
 pub mod CoTakes
 pub mod CoTwins
+pub mod CyPaths
+pub mod CyWithin
+pub mod CySettle
 pub mod NumLaws
 pub mod WalkAgrees
 pub mod WalkFits

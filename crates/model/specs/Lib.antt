@@ -9,6 +9,8 @@ pub mod Taking
 pub mod Conforming
 pub mod Back
 pub mod Bounds
+pub mod Paths
+pub mod Cycles
 pub mod Likeness
 pub mod Limits
 pub mod Calls
@@ -16,4 +18,5 @@ pub mod Twins
 pub mod Checking
 pub mod Rules
 pub mod Laws
+pub mod CycleLaws
 pub mod Cases

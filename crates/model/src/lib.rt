@@ -3,6 +3,7 @@
 
 ghost use Rattle.model.specs.Cases.{WorkedCases};
 ghost use Rattle.model.specs.Laws.{WholeAsDecimal, SameNumber, ScalarsExactly, OutcomeStays, AllSettle, AcceptsExactly, TakesOnce, WalkAgrees, WalkFits, EncodeInjective, SizeIsLength, DecodesOnce, AcceptsConforming, AcceptsWithin, ComesBack, SameWhenAlike, RunsStand, LoadCoerces, ExtentsCut, EqualBytesWhenAlike, LoadsBack, ShownAreTwins, PlacesDoNotMatter};
+ghost use Rattle.model.specs.CycleLaws.{AcyclicSettles};
 
 // Each worked case leaves what it says, computed from the definitions.
 pub fn worked_cases_stand()
@@ -32,6 +33,11 @@ pub fn outcome_stays_stands()
 // Where a schema's defaults have outcomes at a bound, every value has one.
 pub fn all_settle_stands()
     ensures { AllSettle }
+{}
+
+// Where no field leads back to itself by its default, all defaults have outcomes at the number of the fields that have one.
+pub fn acyclic_settles_stands()
+    ensures { AcyclicSettles }
 {}
 
 // Coercion accepts what the relation has, and nothing else.
