@@ -173,7 +173,7 @@ impl<'w, S: Source, R: ScalarRule> Walk<'w, '_, S, R> {
     // Asks the rule about a record that is written, if it is the value of a custom scalar.
     fn settle(&self, at: usize, scalar: Option<usize>, record: &[u8]) -> Result<(), ValueFault> {
         match scalar {
-            Some(index) if !self.rule.accepts(self.schema.scalar_name(index), record) => {
+            Some(index) if !self.rule.accepts(self.schema.type_name(index), record) => {
                 Err(ValueFault::ScalarRefused(self.spot(at)))
             }
             _ => Ok(()),

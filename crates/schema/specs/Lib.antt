@@ -1,3 +1,4 @@
+pub mod Counts
 pub mod Documents
 pub mod Outcomes
 pub mod Types

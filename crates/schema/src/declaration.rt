@@ -9,9 +9,6 @@ use source::nodes::Nodes;
 use text::fault::Fault;
 use text::token::Token;
 
-// A default is at this depth, what is in it deeper.
-const DEFAULT_DEPTH: usize = 1;
-
 #[derive(Clone, Copy)]
 pub struct Declaration<'a> {
     pub ty: Type<'a, ()>,
@@ -42,7 +39,5 @@ fn default_value(tokens: &mut Tokens<'_>, nodes: &mut Nodes) -> Result<Option<us
     {
         return Ok(None);
     }
-    let root = nodes.list.len();
-    tokens.literal(DEFAULT_DEPTH, nodes)?;
-    Ok(Some(root))
+    Ok(Some(tokens.literal(nodes)?))
 }

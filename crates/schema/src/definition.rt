@@ -1,22 +1,120 @@
-// Schemas: the scalars that a text declares.
-ghost use Rattle.std.specs.Prelude.{◌≤◌, map, IfOk, vec_len};
+// Schemas: the types and directives that a text declares.
+ghost use Rattle.std.specs.Prelude.{map};
 ghost use Rattle.lookup.specs.First.{First};
 
-use crate::tokens::{Name, Tokens};
-use crate::types::Base;
-use lookup::{Lookup, Table};
-use std::alloc::Global;
-use text::fault::Fault;
-use text::token::Token;
+use crate::location::Locations;
+use crate::tokens::Name;
+use crate::types::{Base, Type};
+use lookup::{Lookup, Named, Table};
+use reader::literal::Literal;
+use source::raw::Span;
+use source::tree::Tree;
 
-pub const MOST_SCALARS: usize = 256;
+pub const MOST_TYPES: usize = 256;
 
-// A declared scalar, with the place of its name in the schema's text.
-pub type Scalar<'a> = Name<'a>;
+pub const MOST_VALUES: usize = 1024;
 
+pub const MOST_FIELDS: usize = 1024;
+
+pub const MOST_DIRECTIVES: usize = 64;
+
+// Of all directives of a schema.
+pub const MOST_ARGUMENTS: usize = 256;
+
+#[derive(Clone, Copy, Debug, PartialEq)]
+pub enum TypeKind {
+    Scalar,
+    Enum,
+    Input,
+    // Object types, interfaces and unions.
+    Output,
+}
+
+impl TypeKind {
+    // What the name of a type of this kind stands for.
+    fn base(self, index: usize) -> Base {
+        match self {
+            TypeKind::Scalar => Base::Custom(index),
+            TypeKind::Enum => Base::Enum(index),
+            TypeKind::Input => Base::Input(index),
+            TypeKind::Output => Base::Output,
+        }
+    }
+}
+
+#[derive(Clone, Copy)]
+pub struct TypeDef<'a> {
+    // Beside its place and not a `Name` with it, as clauses and callers have it.
+    pub name: &'a [u8],
+    // The offset of the name in the schema's text.
+    pub place: usize,
+    pub kind: TypeKind,
+    // Where its values or fields stand.
+    pub inside: Span,
+}
+
+// A value of an enum.
+pub type EnumValue<'a> = Name<'a>;
+
+// A field of an input object, or an argument of a directive.
+#[derive(Clone, Copy)]
+pub struct Field<'a> {
+    pub name: &'a [u8],
+    pub place: usize,
+    pub ty: Type<'a>,
+    // The cursor of the default in the schema's tree.
+    pub default: Option<usize>,
+}
+
+#[derive(Clone, Copy)]
+pub struct Directive<'a> {
+    pub name: &'a [u8],
+    pub place: usize,
+    // Where its arguments stand.
+    pub arguments: Span,
+    pub locations: Locations,
+    pub repeatable: bool,
+}
+
+impl Named for TypeDef<'_> {
+    ghost called = { λ t. t.name.now };
+
+    fn name(&self) -> &[u8] {
+        self.name
+    }
+}
+
+impl Named for Field<'_> {
+    ghost called = { λ f. f.name.now };
+
+    fn name(&self) -> &[u8] {
+        self.name
+    }
+}
+
+impl Named for Directive<'_> {
+    ghost called = { λ d. d.name.now };
+
+    fn name(&self) -> &[u8] {
+        self.name
+    }
+}
+
+// The rows of all definitions, each table in the order of the text.
 #[derive(Drop)]
 pub struct Schema<'a> {
-    pub scalars: Vec<Scalar<'a>>,
+    pub types: Vec<TypeDef<'a>>,
+    pub values: Vec<EnumValue<'a>>,
+    pub fields: Vec<Field<'a>>,
+    pub directives: Vec<Directive<'a>>,
+    pub arguments: Vec<Field<'a>>,
+    // The defaults of fields and arguments.
+    pub tree: Tree<'a>,
+}
+
+// The records that stand in the span; none where it does not stand.
+pub fn between<R>(records: &[R], span: Span) -> &[R] {
+    records.get(span.from..span.to).unwrap_or(&[])
 }
 
 // What a name stands for without any schema.
@@ -31,47 +129,75 @@ pub fn built_in(name: &[u8]) -> Option<Base> {
     }
 }
 
-impl<'a> Schema<'a> {
-    pub fn base(&self, name: &[u8]) -> Base {
-        built_in(name)
-            .or_else(|| self.find(name).map(Base::Custom))
-            .unwrap_or(Base::Unknown)
-    }
-
-    // The first scalar with the name.
-    pub fn find(&self, name: &[u8]) -> Option<usize>
-        ensures { First (map (λ x. x.name.now) self.now.scalars.items) name.now result }
-    {
-        Table::new(self.scalars.as_slice()).find(name)
-    }
-
-    // The name of a declared scalar; of none the empty name, which is what callers would take in place of a None.
-    pub fn scalar_name(&self, index: usize) -> &[u8] {
-        self.scalars
-            .get(index)
-            .map(|scalar| scalar.name)
-            .unwrap_or_default()
-    }
+// What a type's name stands for, where these types are declared.
+pub(crate) fn base_among(types: &[TypeDef<'_>], name: &[u8]) -> Base {
+    built_in(name)
+        .or_else(|| declared(types, name))
+        .unwrap_or(Base::Unknown)
 }
 
-// Reads a schema: any number of definitions.
-pub fn read_schema(heap: Global, text: &[u8]) -> Result<Schema<'_>, Fault>
-    ensures { IfOk result (λ s. vec_len s.scalars ≤ 256) }
-{
-    let mut tokens = Tokens::new(text)?;
-    let mut scalars = Vec::new(heap);
-    loop {
-        let lexeme = tokens.next()?;
-        match lexeme.token {
-            Token::End => return Ok(Schema { scalars }),
-            Token::Name(b"scalar") => {
-                let scalar = tokens.name()?;
-                if scalars.len() >= MOST_SCALARS {
-                    return Err(Fault::NoSpace(scalar.place));
-                }
-                scalars.push(scalar)?;
-            }
-            _ => return Err(Fault::BadText(lexeme.start)),
-        }
+// What the name stands for among the declared types.
+fn declared(types: &[TypeDef<'_>], name: &[u8]) -> Option<Base> {
+    let index = Table::new(types).find(name)?;
+    Some(types[index].kind.base(index))
+}
+
+impl<'a> Schema<'a> {
+    // What a type's name stands for.
+    pub fn base(&self, name: &[u8]) -> Base {
+        base_among(&self.types, name)
+    }
+
+    // The first type with the name.
+    pub fn find(&self, name: &[u8]) -> Option<usize>
+        ensures { First (map (λ x. x.name.now) self.now.types.items) name.now result }
+    {
+        Table::new(self.types.as_slice()).find(name)
+    }
+
+    // The first directive with the name.
+    pub fn find_directive(&self, name: &[u8]) -> Option<usize>
+        ensures { First (map (λ x. x.name.now) self.now.directives.items) name.now result }
+    {
+        Table::new(self.directives.as_slice()).find(name)
+    }
+
+    // The name of a declared type; of none the empty name, which is what callers would take in place of a None.
+    pub fn type_name(&self, index: usize) -> &[u8] {
+        self.types.get(index).map(|ty| ty.name).unwrap_or_default()
+    }
+
+    // Where the values or fields of a declared type stand; those of none nowhere.
+    pub fn inside(&self, index: usize) -> Span {
+        self.types.get(index).map_or(Span::EMPTY, |ty| ty.inside)
+    }
+
+    // The values of an enum.
+    pub fn values_of(&self, index: usize) -> &[EnumValue<'a>] {
+        between(self.values.as_slice(), self.inside(index))
+    }
+
+    // The fields of an input object.
+    pub fn fields_of(&self, index: usize) -> &[Field<'a>] {
+        between(self.fields.as_slice(), self.inside(index))
+    }
+
+    // The arguments of a directive.
+    pub fn arguments_of(&self, directive: &Directive<'_>) -> &[Field<'a>] {
+        between(self.arguments.as_slice(), directive.arguments)
+    }
+
+    pub fn field(&self, index: usize) -> Option<&Field<'a>> {
+        self.fields.get(index)
+    }
+
+    // Whether an enum has a value of that name.
+    pub fn has_value(&self, index: usize, name: &[u8]) -> bool {
+        Table::new(self.values_of(index)).find(name).is_some()
+    }
+
+    // The default that stands at a cursor.
+    pub fn literal(&self, at: usize) -> Literal<'_, 'a> {
+        Literal::new(&self.tree, at)
     }
 }

@@ -4,7 +4,9 @@
 pub mod cursor;
 pub mod declaration;
 pub mod definition;
+pub mod document;
 pub mod layer;
+pub mod location;
 pub mod operation;
 pub mod scalars;
 pub mod tokens;

@@ -1,15 +1,17 @@
-// Operations: the variables that a text defines.
+// Operations: the variables that a text defines, and its uses of directives.
 ghost use Rattle.std.specs.Prelude.{◌≡◌, ◌≤◌, map, IfOk, vec_len};
 ghost use Rattle.lookup.specs.First.{First};
+ghost use Rattle.schema.specs.Reading.{Onward};
 
 use crate::declaration;
 use crate::declaration::Declaration;
-use crate::definition::Schema;
+use crate::definition::{Schema, between};
 use crate::tokens::{Name, Tokens};
 use crate::types::Type;
 use lookup::{Lookup, Named, Table};
 use reader::literal::Literal;
 use source::nodes::Nodes;
+use source::raw::Span;
 use source::tree::Tree;
 use std::alloc::Global;
 use text::fault::Fault;
@@ -45,11 +47,49 @@ impl Named for Variable<'_> {
     }
 }
 
+// The use of a directive.
+#[derive(Clone, Copy)]
+pub struct Use<'a> {
+    pub name: &'a [u8],
+    // The offset of the `@`.
+    pub place: usize,
+    // Where its arguments stand.
+    pub arguments: Span,
+}
+
+#[derive(Clone, Copy)]
+pub struct Argument<'a> {
+    pub name: &'a [u8],
+    // The offset of the name.
+    pub place: usize,
+    // The cursor of the value in the operation's tree.
+    pub value: usize,
+}
+
+impl Named for Use<'_> {
+    ghost called = { λ u. u.name.now };
+
+    fn name(&self) -> &[u8] {
+        self.name
+    }
+}
+
+impl Named for Argument<'_> {
+    ghost called = { λ a. a.name.now };
+
+    fn name(&self) -> &[u8] {
+        self.name
+    }
+}
+
 #[derive(Drop)]
 pub struct Operation<'a> {
     pub kind: OperationKind,
     pub variables: Vec<Variable<'a>>,
-    // The defaults.
+    pub uses: Vec<Use<'a>>,
+    // Of all uses, in the order of the text.
+    pub arguments: Vec<Argument<'a>>,
+    // The defaults, and the values of arguments.
     pub tree: Tree<'a>,
 }
 
@@ -72,7 +112,12 @@ impl<'a> Operation<'a> {
         Table::new(self.variables.as_slice()).find(name)
     }
 
-    // The default that stands at a cursor.
+    // The arguments of a use.
+    pub fn arguments_of(&self, directive_use: &Use<'_>) -> &[Argument<'a>] {
+        between(self.arguments.as_slice(), directive_use.arguments)
+    }
+
+    // The default or the argument's value that stands at a cursor.
     pub fn literal(&self, at: usize) -> Literal<'_, 'a> {
         Literal::new(&self.tree, at)
     }
@@ -94,10 +139,17 @@ pub fn read_operation<'a>(
         Some(_) => definitions(heap, schema, &mut tokens, &mut nodes)?,
         None => Vec::new(heap),
     };
+    let mut uses = Vec::new(heap);
+    let mut arguments = Vec::new(heap);
+    while let Some(place) = tokens.eat(|token| matches!(token, Token::At))? {
+        uses.push(directive_use(place, &mut tokens, &mut arguments, &mut nodes)?)?;
+    }
     tokens.expect(|token| matches!(token, Token::End))?;
     Ok(Operation {
         kind,
         variables,
+        uses,
+        arguments,
         tree: Tree { text, nodes },
     })
 }
@@ -141,6 +193,59 @@ fn definitions<'a>(
                 })?;
             }
             Token::CloseParen if !variables.is_empty() => return Ok(variables),
+            _ => return Err(Fault::BadText(start)),
+        }
+    }
+}
+
+// The use whose `@` was read.
+fn directive_use<'a>(
+    place: usize,
+    tokens: &mut Tokens<'a>,
+    arguments: &mut Vec<Argument<'a>>,
+    nodes: &mut Nodes,
+) -> Result<Use<'a>, Fault>
+    ensures { IfOk result (λ _. Onward 1 tokens.old tokens.new) }
+{
+    let Name { name, .. } = tokens.name()?;
+    let arguments = match tokens.eat(|token| matches!(token, Token::OpenParen))? {
+        Some(_) => arguments_in(tokens, arguments, nodes)?,
+        None => Span::EMPTY,
+    };
+    Ok(Use {
+        name,
+        place,
+        arguments,
+    })
+}
+
+// The arguments before the `)`, at least one: where they stand.
+fn arguments_in<'a>(
+    tokens: &mut Tokens<'a>,
+    arguments: &mut Vec<Argument<'a>>,
+    nodes: &mut Nodes,
+) -> Result<Span, Fault>
+    ensures { IfOk result (λ _. Onward 0 tokens.old tokens.new) }
+{
+    let from = arguments.len();
+    loop {
+        let Lexeme { token, start, .. } = tokens.next()?;
+        match token {
+            Token::Name(name) => {
+                tokens.expect(|token| matches!(token, Token::Colon))?;
+                let value = tokens.literal(nodes)?;
+                arguments.push(Argument {
+                    name,
+                    place: start,
+                    value,
+                })?;
+            }
+            Token::CloseParen if arguments.len() != from => {
+                return Ok(Span {
+                    from,
+                    to: arguments.len(),
+                });
+            }
             _ => return Err(Fault::BadText(start)),
         }
     }

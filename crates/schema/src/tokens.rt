@@ -1,5 +1,5 @@
 // Reading the tokens of a text one after the other.
-ghost use Rattle.std.specs.Prelude.{◌≡◌, ◌<◌, ◌≤◌, ◌+◌, length, Ok, Err, IfOk, MatchResult, IsOkAnd, is_ok};
+ghost use Rattle.std.specs.Prelude.{◌≡◌, ◌<◌, ◌≤◌, ◌+◌, length, vec_len, Ok, Err, IfOk, MatchResult, IsOkAnd, is_ok};
 ghost use Rattle.text.specs.Places.{Placed, is_end};
 ghost use Rattle.text.specs.TokenFound.{TokenTold};
 ghost use Rattle.text.specs.declared.fault.Fault.TheVariants.{BadText};
@@ -12,6 +12,9 @@ use source::nodes::Nodes;
 use text::fault::Fault;
 use text::graphql;
 use text::token::{Lexeme, Token};
+
+// The literal of a default or of an argument is at this depth, what is in it deeper.
+const LITERAL_DEPTH: usize = 1;
 
 // A name, and its offset in the text.
 #[derive(Clone, Copy)]
@@ -115,11 +118,13 @@ impl<'a> Tokens<'a> {
         }
     }
 
-    // Adds the nodes of the literal that comes next, a value at that depth.
-    pub(crate) fn literal(&mut self, depth: usize, nodes: &mut Nodes) -> Result<(), Fault>
-        ensures { IfOk result (λ _. Onward 1 self.old self.new) }
+    // Adds the nodes of the literal that comes next: its cursor.
+    pub(crate) fn literal(&mut self, nodes: &mut Nodes) -> Result<usize, Fault>
+        ensures onward { IfOk result (λ _. Onward 1 self.old self.new) }
+        ensures root { IfOk result (λ root. root ≡ vec_len nodes.old.list) }
     {
-        self.at = literal::literal_at(self.text, self.at, depth, nodes)?;
-        Ok(())
+        let root = nodes.list.len();
+        self.at = literal::literal_at(self.text, self.at, LITERAL_DEPTH, nodes)?;
+        Ok(root)
     }
 }

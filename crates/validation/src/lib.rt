@@ -13,17 +13,17 @@ use lookup::{Lookup, Named, Table};
 use schema::definition::Schema;
 use schema::operation::Operation;
 use schema::types::Base;
-use schema::{definition, operation};
+use schema::{definition, document, operation};
 use source::raw::Source;
 use std::alloc::Global;
 use text::fault::Fault;
 
 // The schema that the text writes: each name declared once, and none of them built in.
 pub fn make_schema(heap: Global, text: &[u8]) -> Result<Schema<'_>, MakeFault>
-    ensures { IfOk result (λ s. vec_len s.scalars ≤ 256) }
+    ensures { IfOk result (λ s. vec_len s.types ≤ 256) }
 {
-    let schema = definition::read_schema(heap, text)?;
-    scalars_differ(&schema)?;
+    let schema = document::read_schema(heap, text)?;
+    types_differ(&schema)?;
     Ok(schema)
 }
 
@@ -57,16 +57,16 @@ fn no_repeated(place: Option<usize>) -> Result<(), Fault> {
     place.map_or(Ok(()), |place| Err(Fault::RepeatedName(place)))
 }
 
-// No scalar's name is built in or an earlier scalar's.
-fn scalars_differ(schema: &Schema<'_>) -> Result<(), Fault> {
-    let scalars = schema.scalars.as_slice();
-    let built_in = scalars
+// No type's name is built in or an earlier type's.
+fn types_differ(schema: &Schema<'_>) -> Result<(), Fault> {
+    let types = schema.types.as_slice();
+    let built_in = types
         .iter()
-        .find(|scalar| definition::built_in(scalar.name).is_some());
+        .find(|ty| definition::built_in(ty.name).is_some());
     let place = built_in
         .into_iter()
-        .chain(repeated(scalars))
-        .map(|scalar| scalar.place)
+        .chain(repeated(types))
+        .map(|ty| ty.place)
         .min();
     no_repeated(place)
 }

@@ -1,8 +1,9 @@
-use Rattle.std.proofs.Common.{◌-◌, ◌≤◌, length, vec_len}
-use Rattle.declarations.proofs.document.read_schema.Given as goal
+use Rattle.std.proofs.Common.{◌-◌, length}
+use Rattle.schema.specs.Counts.{Few}
+use Rattle.schema.proofs.document.read_schema.Given as goal
 
 abbrev pub invariant-loop-schema : goal.invariant-loop-schema
-invariant-loop-schema l = vec_len l.schema.types ≤ 256
+invariant-loop-schema l = Few l.schema
 
 abbrev pub decreases-loop-schema : goal.decreases-loop-schema
 decreases-loop-schema l = length l.tokens.text.now - l.tokens.at

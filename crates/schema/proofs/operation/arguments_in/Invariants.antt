@@ -1,6 +1,6 @@
 use Rattle.std.proofs.Common.{◌-◌, length}
 use Rattle.schema.specs.Reading.{Onward}
-use Rattle.declarations.proofs.document.input_fields.Given as goal
+use Rattle.schema.proofs.operation.arguments_in.Given as goal
 
 abbrev pub invariant-loop-token : goal.invariant-loop-token
 invariant-loop-token l = Onward 0 l.fn.tokens l.tokens

@@ -1,9 +1,9 @@
-use Rattle.std.proofs.Common.{◌-◌, length}
+use Rattle.std.proofs.Common.{◌-◌, ◌≤◌, length, vec_len}
 use Rattle.schema.specs.Reading.{Onward}
-use Rattle.declarations.proofs.document.enum_values.Given as goal
+use Rattle.schema.proofs.document.fields.Given as goal
 
 abbrev pub invariant-loop-token : goal.invariant-loop-token
-invariant-loop-token l = Onward 0 l.fn.tokens l.tokens
+invariant-loop-token l = Onward 0 l.fn.tokens l.tokens × (vec_len l.table ≤ l.fn.most)
 
 abbrev pub decreases-loop-token : goal.decreases-loop-token
 decreases-loop-token l = length l.tokens.text.now - l.tokens.at

@@ -1,0 +1,84 @@
+// Where directives may stand (section 3.13).
+
+// DirectiveLocation of the standard.
+#[derive(Clone, Copy, Debug, PartialEq)]
+pub enum Location {
+    Query,
+    Mutation,
+    Subscription,
+    Field,
+    FragmentDefinition,
+    FragmentSpread,
+    InlineFragment,
+    VariableDefinition,
+    Schema,
+    Scalar,
+    Object,
+    FieldDefinition,
+    ArgumentDefinition,
+    Interface,
+    Union,
+    Enum,
+    EnumValue,
+    InputObject,
+    InputFieldDefinition,
+}
+
+pub const LOCATION_COUNT: usize = 19;
+
+// The locations by their names.
+pub const LOCATIONS: [(&[u8], Location); LOCATION_COUNT] = [
+    (b"QUERY", Location::Query),
+    (b"MUTATION", Location::Mutation),
+    (b"SUBSCRIPTION", Location::Subscription),
+    (b"FIELD", Location::Field),
+    (b"FRAGMENT_DEFINITION", Location::FragmentDefinition),
+    (b"FRAGMENT_SPREAD", Location::FragmentSpread),
+    (b"INLINE_FRAGMENT", Location::InlineFragment),
+    (b"VARIABLE_DEFINITION", Location::VariableDefinition),
+    (b"SCHEMA", Location::Schema),
+    (b"SCALAR", Location::Scalar),
+    (b"OBJECT", Location::Object),
+    (b"FIELD_DEFINITION", Location::FieldDefinition),
+    (b"ARGUMENT_DEFINITION", Location::ArgumentDefinition),
+    (b"INTERFACE", Location::Interface),
+    (b"UNION", Location::Union),
+    (b"ENUM", Location::Enum),
+    (b"ENUM_VALUE", Location::EnumValue),
+    (b"INPUT_OBJECT", Location::InputObject),
+    (b"INPUT_FIELD_DEFINITION", Location::InputFieldDefinition),
+];
+
+impl Location {
+    // The location of that name.
+    pub fn named(name: &[u8]) -> Option<Location> {
+        LOCATIONS
+            .iter()
+            .find(|(word, _)| *word == name)
+            .map(|(_, location)| *location)
+    }
+}
+
+// A set of locations.
+#[derive(Clone, Copy, Debug)]
+pub struct Locations {
+    // Of each location, in the order of its declaration.
+    flags: [bool; LOCATION_COUNT],
+}
+
+impl Locations {
+    pub const NONE: Locations = Locations {
+        flags: [false; LOCATION_COUNT],
+    };
+
+    pub fn contains(self, location: Location) -> bool {
+        self.flags[location as usize]
+    }
+
+    // The set and one location more.
+    pub(crate) fn with(self, location: Location) -> Locations {
+        let mut flags = self.flags;
+        flags[location as usize] = true;
+        Locations { flags }
+    }
+}
