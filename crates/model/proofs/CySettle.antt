@@ -92,19 +92,22 @@ declared_among (d ∷ ds) n fs f e i = either_def (same d.name n) d.def (declare
 pub found_among : (S : Schema) (n : Name) (fs : List Field) (f : Field) → find S n ≡ input_d fs → Among f fs → Among (record { owner = n; field = f }) (input_fields S)
 found_among S n fs f e i = declared_among S.types n fs f (find_declared S n fs e) i
 
--- it is one of them, and has a default
-abbrev Known : Schema → Name → Field → Type 0
-Known S n f = Among (record { owner = n; field = f }) (input_fields S) × (y : Raw) × (f.dflt ≡ some y)
+-- it is a field of the input type that is found, and has a default
+abbrev pub Found : Schema → Name → Field → Type 0
+Found S n f = (fs : List Field) × (find S n ≡ input_d fs) × Among f fs × (y : Raw) × (f.dflt ≡ some y)
 
 mutual
-  pub lacks-known : {S : Schema} {x : Raw} {t : Ty} {n : Name} {f : Field} → Lacks S x t n f → Known S n f
-  lacks-known {S} {n = n} {f = f} (l_here {fs = fs} {y = y} e i m d) = (found_among S n fs f e i, y, d)
-  lacks-known (l_member e i m l) = lacks-known l
-  lacks-known (l_items l) = lacks_in-known l
+  pub lacks-found : {S : Schema} {x : Raw} {t : Ty} {n : Name} {f : Field} → Lacks S x t n f → Found S n f
+  lacks-found (l_here {fs = fs} {y = y} e i m d) = (fs, e, i, y, d)
+  lacks-found (l_member e i m l) = lacks-found l
+  lacks-found (l_items l) = lacks_in-found l
 
-  lacks_in-known : {S : Schema} {xs : Raws} {t : Ty} {n : Name} {f : Field} → LacksIn S xs t n f → Known S n f
-  lacks_in-known (l_first l) = lacks-known l
-  lacks_in-known (l_later l) = lacks_in-known l
+  lacks_in-found : {S : Schema} {xs : Raws} {t : Ty} {n : Name} {f : Field} → LacksIn S xs t n f → Found S n f
+  lacks_in-found (l_first l) = lacks-found l
+  lacks_in-found (l_later l) = lacks_in-found l
+
+pub lacks-among : {S : Schema} {x : Raw} {t : Ty} {n : Name} {f : Field} → Lacks S x t n f → Among (record { owner = n; field = f }) (input_fields S)
+lacks-among {S} {n = n} {f = f} l = let k = lacks-found l in found_among S n k.0 f k.1 k.2
 
 default_among : {F : InputField} {Fs : List InputField} (y : Raw) → Among F Fs → F.field.dflt ≡ some y → Among F (with_default Fs)
 default_among {F} y (first {xs = Fs}) e = subst (λ (o : Option Raw). Among F (if_default F o (with_default Fs))) (sym e) first
@@ -115,7 +118,7 @@ default_among {F} y (later {y = G} {xs = Fs} i) e = kept G.field.dflt (default_a
     kept (some x) a = later a
 
 leads-among : {S : Schema} {F G : InputField} → Leads S F G → Among G (with_default (input_fields S))
-leads-among (leads e l) = let k = lacks-known l in default_among k.1 k.0 k.2
+leads-among (leads e l) = let k = lacks-found l in default_among k.3 (lacks-among l) k.4
 
 pub leads_on-among : {S : Schema} {F G : InputField} → LeadsOn S F G → Among G (with_default (input_fields S))
 leads_on-among (step e) = leads-among e

@@ -12,7 +12,10 @@ pub mod CoTakes
 pub mod CoTwins
 pub mod CyPaths
 pub mod CyWithin
+pub mod CyMeets
 pub mod CySettle
+pub mod CyNumbers
+pub mod CyNever
 pub mod NumLaws
 pub mod WalkAgrees
 pub mod WalkFits

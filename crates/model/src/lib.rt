@@ -3,7 +3,7 @@
 
 ghost use Rattle.model.specs.Cases.{WorkedCases};
 ghost use Rattle.model.specs.Laws.{WholeAsDecimal, SameNumber, ScalarsExactly, OutcomeStays, AllSettle, AcceptsExactly, TakesOnce, WalkAgrees, WalkFits, EncodeInjective, SizeIsLength, DecodesOnce, AcceptsConforming, AcceptsWithin, ComesBack, SameWhenAlike, RunsStand, LoadCoerces, ExtentsCut, EqualBytesWhenAlike, LoadsBack, ShownAreTwins, PlacesDoNotMatter};
-ghost use Rattle.model.specs.CycleLaws.{AcyclicSettles};
+ghost use Rattle.model.specs.CycleLaws.{AcyclicSettles, CyclesNeverSettle, AcyclicExactly, CyclesByNumber};
 
 // Each worked case leaves what it says, computed from the definitions.
 pub fn worked_cases_stand()
@@ -38,6 +38,21 @@ pub fn all_settle_stands()
 // Where no field leads back to itself by its default, all defaults have outcomes at the number of the fields that have one.
 pub fn acyclic_settles_stands()
     ensures { AcyclicSettles }
+{}
+
+// A default on a cycle comes to no record at any bound.
+pub fn cycles_never_settle_stands()
+    ensures { CyclesNeverSettle }
+{}
+
+// Where no default is refused, there is no cycle exactly when the defaults have outcomes at some bound.
+pub fn acyclic_exactly_stands()
+    ensures { AcyclicExactly }
+{}
+
+// Cycles by the numbers of the fields, and the sets of paths by which Warshall's closure finds them.
+pub fn cycles_by_number_stands()
+    ensures { CyclesByNumber }
 {}
 
 // Coercion accepts what the relation has, and nothing else.
