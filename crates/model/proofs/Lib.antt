@@ -33,3 +33,10 @@ pub mod RunBytes
 pub mod RunStands
 pub mod RunExtents
 pub mod RunLoad
+pub mod ChUsage
+pub mod ChFound
+pub mod ChRules
+pub mod ChScalars
+pub mod ChSilent
+pub mod ChCoerces
+pub mod ChTwins

@@ -18,5 +18,6 @@ pub mod Twins
 pub mod Checking
 pub mod Rules
 pub mod Laws
+pub mod CheckLaws
 pub mod CycleLaws
 pub mod Cases

@@ -4,6 +4,7 @@
 ghost use Rattle.model.specs.Cases.{WorkedCases};
 ghost use Rattle.model.specs.Laws.{WholeAsDecimal, SameNumber, ScalarsExactly, OutcomeStays, AllSettle, AcceptsExactly, TakesOnce, WalkAgrees, WalkFits, EncodeInjective, SizeIsLength, DecodesOnce, AcceptsConforming, AcceptsWithin, ComesBack, SameWhenAlike, RunsStand, LoadCoerces, ExtentsCut, EqualBytesWhenAlike, LoadsBack, ShownAreTwins, PlacesDoNotMatter};
 ghost use Rattle.model.specs.CycleLaws.{AcyclicSettles, CyclesNeverSettle, AcyclicExactly, CyclesByNumber};
+ghost use Rattle.model.specs.CheckLaws.{UsageExactly, UncoercibleExactly, FindsTheBroken, SilenceIsCoercion, TwinsFindAlike};
 
 // Each worked case leaves what it says, computed from the definitions.
 pub fn worked_cases_stand()
@@ -143,4 +144,29 @@ pub fn shown_are_twins_stands()
 // Values that are the same but for their places have the same outcome, but for the places of refusals.
 pub fn places_do_not_matter_stands()
     ensures { PlacesDoNotMatter }
+{}
+
+// A variable is allowed exactly where IsVariableUsageAllowed and AreTypesCompatible allow it.
+pub fn usage_exactly_stands()
+    ensures { UsageExactly }
+{}
+
+// A scalar is uncoercible exactly where its type takes nothing of it as a literal.
+pub fn uncoercible_exactly_stands()
+    ensures { UncoercibleExactly }
+{}
+
+// The literal check finds something exactly where a rule is broken, by kind and place.
+pub fn finds_the_broken_stands()
+    ensures { FindsTheBroken }
+{}
+
+// The literal check is silent exactly where coercion accepts, if the rule accepts everything.
+pub fn silence_is_coercion_stands()
+    ensures { SilenceIsCoercion }
+{}
+
+// In values that are the same but for their places, the literal check finds the same kinds.
+pub fn twins_find_alike_stands()
+    ensures { TwinsFindAlike }
 {}
