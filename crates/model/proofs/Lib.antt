@@ -16,6 +16,7 @@ pub mod CyMeets
 pub mod CySettle
 pub mod CyNumbers
 pub mod CyNever
+pub mod CyOnce
 pub mod NumLaws
 pub mod WalkAgrees
 pub mod WalkFits

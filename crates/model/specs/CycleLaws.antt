@@ -1,11 +1,11 @@
 -- The laws of default cycles.
-use Rattle.std.specs.Prelude.{◌≡◌, ℕ, suc, ◌≤◌, ◌⊎◌, ◌↔◌, length}
+use Rattle.std.specs.Prelude.{◌≡◌, ℕ, suc, ◌≤◌, ◌⊎◌, ◌↔◌, List, [], ◌∷◌, length}
 use Rattle.std.proofs.Math.Option.{some}
-use Rattle.model.specs.Values.{literal, Raw, Schema, Rec}
+use Rattle.model.specs.Values.{Name, literal, Raw, TypeDef, Schema, Rec}
 use Rattle.model.specs.Refusals.{Refusal, refused, beyond, Here}
 use Rattle.model.specs.Coercion.{Rule, coerce_at}
 use Rattle.model.specs.Taking.{Takes}
-use Rattle.model.specs.Back.{OfInputs}
+use Rattle.model.specs.Back.{OfInputs, Distinct, Proper}
 use Rattle.model.specs.Bounds.{EachDefault, Settles}
 use Rattle.model.specs.Paths.{Steps, Through}
 use Rattle.model.specs.Cycles.{InputField, OnCycle, Acyclic, input_fields, with_default, nth, LeadsByNumber}
@@ -34,3 +34,12 @@ CyclesByNumber = (S : Schema)
     × ((i j : ℕ) → LeadsByNumber S i j ↔ Through (LeadsByNumber S) 0 i j)
     × ((k i j : ℕ) → Through (LeadsByNumber S) (suc k) i j ↔ Through (LeadsByNumber S) k i j ⊎ (Through (LeadsByNumber S) k i k × Through (LeadsByNumber S) k k j))
     × ((i j : ℕ) → Steps (LeadsByNumber S) i j ↔ Through (LeadsByNumber S) (length (input_fields S)) i j)
+
+abbrev pub type_names : List TypeDef → List Name
+type_names [] = []
+type_names (d ∷ ds) = d.name ∷ type_names ds
+
+-- where no type is declared twice and no input type has two fields of one name, a field has one number
+abbrev pub NumberedOnce : Type 0
+NumberedOnce = (S : Schema) → Distinct (type_names S.types) → Proper S → (i j : ℕ) (F G : InputField)
+    → nth (input_fields S) i ≡ some F → nth (input_fields S) j ≡ some G → F.owner ≡ G.owner → F.field.name ≡ G.field.name → i ≡ j

@@ -3,7 +3,7 @@
 
 ghost use Rattle.model.specs.Cases.{WorkedCases};
 ghost use Rattle.model.specs.Laws.{WholeAsDecimal, SameNumber, ScalarsExactly, OutcomeStays, AllSettle, AcceptsExactly, TakesOnce, WalkAgrees, WalkFits, EncodeInjective, SizeIsLength, DecodesOnce, AcceptsConforming, AcceptsWithin, ComesBack, SameWhenAlike, RunsStand, LoadCoerces, ExtentsCut, EqualBytesWhenAlike, LoadsBack, ShownAreTwins, PlacesDoNotMatter};
-ghost use Rattle.model.specs.CycleLaws.{AcyclicSettles, CyclesNeverSettle, AcyclicExactly, CyclesByNumber};
+ghost use Rattle.model.specs.CycleLaws.{AcyclicSettles, CyclesNeverSettle, AcyclicExactly, CyclesByNumber, NumberedOnce};
 ghost use Rattle.model.specs.CheckLaws.{UsageExactly, UncoercibleExactly, FindsTheBroken, SilenceIsCoercion, TwinsFindAlike};
 
 // Each worked case leaves what it says, computed from the definitions.
@@ -54,6 +54,11 @@ pub fn acyclic_exactly_stands()
 // Cycles by the numbers of the fields, and the sets of paths by which Warshall's closure finds them.
 pub fn cycles_by_number_stands()
     ensures { CyclesByNumber }
+{}
+
+// A field has one number where no name is declared twice.
+pub fn numbered_once_stands()
+    ensures { NumberedOnce }
 {}
 
 // Coercion accepts what the relation has, and nothing else.
