@@ -16,7 +16,7 @@ use Rattle.model.proofs.ChFound.{is_something, none_left, none_right}
 use Rattle.model.proofs.ChSilent.{coerced_silent}
 
 -- accepted, or beyond the bound
-abbrev Unrefused : {X : Type 0} → Out X → Type 0
+abbrev pub Unrefused : {X : Type 0} → Out X → Type 0
 Unrefused (ok x) = Unit {0}
 Unrefused (refused f) = ⊥
 Unrefused beyond = Unit {0}
@@ -163,7 +163,7 @@ each_more : (P Q : Raw → Ty → Type 0) → ((x : Raw) (t : Ty) → P x t → 
 each_more P Q h [] k = tt
 each_more P Q h (f ∷ fs) k = (default_more P Q h f.ty f.dflt k.0, each_more P Q h fs k.1)
 
-on_at : (k : ℕ) (S : Schema) (R : Rule) → AcceptsAll R → RightDefaults S → (vs : List Variable) (b : Bool) (lone : ℕ) (h : Here) (v : Raw) (t : Ty) → VariableFree v → check S vs b lone v t ≡ [] → Unrefused (coerce_at k S R literal h v t)
+pub on_at : (k : ℕ) (S : Schema) (R : Rule) → AcceptsAll R → RightDefaults S → (vs : List Variable) (b : Bool) (lone : ℕ) (h : Here) (v : Raw) (t : Ty) → VariableFree v → check S vs b lone v t ≡ [] → Unrefused (coerce_at k S R literal h v t)
 on_at zero S R a c = on (λ h x t. beyond) S R a
     (λ n fs e. each_more (RightDefault S) (Coerces (λ h x t. beyond)) (λ x t r h. tt) fs (of_input (EachDefault (RightDefault S)) S c n fs e))
 on_at (suc k) S R a c = on (coerce_at k S R literal) S R a

@@ -68,7 +68,7 @@ mutual
   never_fields {ms = ms} (t_none {f = g} s z q) first (inr k) c = stands_not ms g k.0 s (ap (λ (o : Option Raw). or_else o g.dflt) k.1)
   never_fields (t_none s z q) (later i) k c = never_fields q i k c
 
-never_taken : {S : Schema} {R : Rule} {F : InputField} {x : Raw} {r : Rec} → OnCycle S F → F.field.dflt ≡ some x → Takes S R literal F.field.ty x r → ⊥
+pub never_taken : {S : Schema} {R : Rule} {F : InputField} {x : Raw} {r : Rec} → OnCycle S F → F.field.dflt ≡ some x → Takes S R literal F.field.ty x r → ⊥
 never_taken {S} {F = F} c d a =
     let w = onward c in
     never a (subst (λ (v : Raw). Lacks S v F.field.ty w.2 w.3) (one_some w.1 d) w.4) w.5
@@ -86,7 +86,7 @@ cycles_never_settle S R F x c d = (
 )
 
 -- P of the default of one of the fields
-each_default : (P : Raw → Ty → Type 0) {f : Field} {fs : List Field} (x : Raw) → EachDefault P fs → Among f fs → f.dflt ≡ some x → P x f.ty
+pub each_default : (P : Raw → Ty → Type 0) {f : Field} {fs : List Field} (x : Raw) → EachDefault P fs → Among f fs → f.dflt ≡ some x → P x f.ty
 each_default P {f} x w first d = subst (λ (o : Option Raw). OfDefault P f.ty o) d w.0
 each_default P x w (later i) d = each_default P x w.1 i d
 
@@ -94,7 +94,7 @@ beyond_not : (o : Out Rec) → Within o → o ≡ beyond → ⊥
 beyond_not o w e = subst Within e w
 
 -- a field on a cycle is met
-cycle_found : {S : Schema} {F G : InputField} → LeadsOn S F G → Found S G.owner G.field
+pub cycle_found : {S : Schema} {F G : InputField} → LeadsOn S F G → Found S G.owner G.field
 cycle_found (step (leads e l)) = lacks-found l
 cycle_found (on e r) = cycle_found r
 

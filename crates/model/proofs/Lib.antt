@@ -17,6 +17,7 @@ pub mod CySettle
 pub mod CyNumbers
 pub mod CyNever
 pub mod CyOnce
+pub mod CyTaken
 pub mod NumLaws
 pub mod WalkAgrees
 pub mod WalkFits

@@ -1,5 +1,5 @@
 -- The laws of default cycles.
-use Rattle.std.specs.Prelude.{◌≡◌, ℕ, suc, ◌≤◌, ◌⊎◌, ◌↔◌, List, [], ◌∷◌, length}
+use Rattle.std.specs.Prelude.{◌≡◌, ℕ, suc, ◌≤◌, ◌⊎◌, ◌↔◌, true, List, [], ◌∷◌, length}
 use Rattle.std.proofs.Math.Option.{some}
 use Rattle.model.specs.Values.{Name, literal, Raw, TypeDef, Schema, Rec}
 use Rattle.model.specs.Refusals.{Refusal, refused, beyond, Here}
@@ -7,6 +7,7 @@ use Rattle.model.specs.Coercion.{Rule, coerce_at}
 use Rattle.model.specs.Taking.{Takes}
 use Rattle.model.specs.Back.{OfInputs, Distinct, Proper}
 use Rattle.model.specs.Bounds.{EachDefault, Settles}
+use Rattle.model.specs.Checking.{RightDefaults}
 use Rattle.model.specs.Paths.{Steps, Through}
 use Rattle.model.specs.Cycles.{InputField, OnCycle, Acyclic, input_fields, with_default, nth, LeadsByNumber}
 
@@ -25,6 +26,11 @@ abbrev pub AcyclicExactly : Type 0
 AcyclicExactly = (S : Schema) (R : Rule)
     → OfInputs (EachDefault (λ x t. (k : ℕ) (h : Here) (f : Refusal) → coerce_at k S R literal h x t ≡ refused f → ⊥)) S
     → Acyclic S ↔ (k : ℕ) × Settles S R k
+
+-- under a rule that accepts everything, where every default is right, there is no cycle exactly when every default comes to a record
+abbrev pub AcyclicWhenTaken : Type 0
+AcyclicWhenTaken = (S : Schema) (R : Rule) → ((n : Name) (bytes : List ℕ) → R n bytes ≡ true) → RightDefaults S
+    → Acyclic S ↔ OfInputs (EachDefault (λ x t. (r : Rec) × Takes S R literal t x r)) S
 
 -- cycles by numbers, and Warshall's sets: none of the inner points below 0, all of them below the number of fields, and what each step adds
 abbrev pub CyclesByNumber : Type 0

@@ -3,7 +3,7 @@
 
 ghost use Rattle.model.specs.Cases.{WorkedCases};
 ghost use Rattle.model.specs.Laws.{WholeAsDecimal, SameNumber, ScalarsExactly, OutcomeStays, AllSettle, AcceptsExactly, TakesOnce, WalkAgrees, WalkFits, EncodeInjective, SizeIsLength, DecodesOnce, AcceptsConforming, AcceptsWithin, ComesBack, SameWhenAlike, RunsStand, LoadCoerces, ExtentsCut, EqualBytesWhenAlike, LoadsBack, ShownAreTwins, PlacesDoNotMatter};
-ghost use Rattle.model.specs.CycleLaws.{AcyclicSettles, CyclesNeverSettle, AcyclicExactly, CyclesByNumber, NumberedOnce};
+ghost use Rattle.model.specs.CycleLaws.{AcyclicSettles, CyclesNeverSettle, AcyclicExactly, AcyclicWhenTaken, CyclesByNumber, NumberedOnce};
 ghost use Rattle.model.specs.CheckLaws.{UsageExactly, UncoercibleExactly, FindsTheBroken, SilenceIsCoercion, TwinsFindAlike};
 
 // Each worked case leaves what it says, computed from the definitions.
@@ -49,6 +49,11 @@ pub fn cycles_never_settle_stands()
 // Where no default is refused, there is no cycle exactly when the defaults have outcomes at some bound.
 pub fn acyclic_exactly_stands()
     ensures { AcyclicExactly }
+{}
+
+// Where every default is right and the rule accepts everything, there is no cycle exactly when every default comes to a record.
+pub fn acyclic_when_taken_stands()
+    ensures { AcyclicWhenTaken }
 {}
 
 // Cycles by the numbers of the fields, and the sets of paths by which Warshall's closure finds them.
