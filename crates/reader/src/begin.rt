@@ -72,6 +72,7 @@ impl<'a, W: Written> Reader<'a, W> {
 
     // What the lexeme's string writes, with `raw` between its quotation marks: a part of the text where it is plain,
     // without an escape, else added to the pool.
+    #[inline(always)]
     pub(crate) fn string_part(
         self,
         lexeme: Lexeme<'_>,
