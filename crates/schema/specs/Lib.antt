@@ -4,8 +4,12 @@ pub mod Outcomes
 pub mod Types
 pub mod Declarations
 pub mod Locations
+pub mod LocationTold
 pub mod SchemaGrammar
 pub mod SchemaReading
 pub mod Laws
 pub mod Reading
+pub mod Rows
+pub mod Holds
+pub mod SchemaTold
 pub mod Words

@@ -1,15 +1,15 @@
 -- What reading a schema comes to: its definitions, or the fault that comes first.
-use Rattle.std.specs.Prelude.{◌≡◌, ℕ, suc, ◌≤◌, ◌<◌, Bool, true, false, cond, List, [], ◌∷◌, ◌++◌, length, codes}
+use Rattle.std.specs.Prelude.{◌≡◌, ℕ, suc, ◌+◌, ◌≤◌, ◌<◌, Bool, true, false, cond, List, [], ◌∷◌, ◌++◌, length, codes}
 use Rattle.std.proofs.Math.Option.{Option, none, some}
 use Rattle.model.specs.Values.{Name, same, Location}
 use Rattle.text.specs.declared.fault.Fault.{Fault}
 use Rattle.text.specs.declared.fault.Fault.TheVariants.{BadText}
 use Rattle.text.specs.declared.language.Language.TheVariants.{Graphql}
-use Rattle.text.specs.TokenGrammar.{at_sign, open_paren, close_paren, open_brace, close_brace, pipe, Lexical, a_mark, a_name, a_number, a_string, the_end}
+use Rattle.text.specs.TokenGrammar.{Mark, at_sign, open_paren, close_paren, open_brace, close_brace, pipe, Lexical, a_mark, a_name, a_number, a_string, the_end}
 use Rattle.reader.specs.Tokens.{Sight, sees, blind, Sights}
 use Rattle.reader.specs.Grammar.{name_of_null, name_of_true, name_of_false}
 use Rattle.reader.specs.Reading.{Out, got, fails, is_mark}
-use Rattle.schema.specs.Documents.{Label, Declared, Definition, a_scalar, an_enum, an_input, an_output, a_directive, Document, types_in, directives_in}
+use Rattle.schema.specs.Documents.{Label, Declared, Definition, a_scalar, an_enum, an_input, an_output, a_directive, Document, type_of, directive_of}
 use Rattle.schema.specs.Outcomes.{Then, Gives, Maps, Takes, the_mark, any_name, IfMark, Room, before, Items}
 use Rattle.schema.specs.Declarations.{ReadsDeclared}
 use Rattle.schema.specs.Locations.{in_table, location_called}
@@ -71,9 +71,12 @@ value_name s (a_number k ds) = none
 value_name s (a_string cs) = none
 value_name s the_end = none
 
--- after n values of enums, the values of another
+-- after n values of enums, the values of another from behind its `{` on
+abbrev pub ReadsValueList : (ℕ → Sight → Type 0) → ℕ → ℕ → Out (List Label) → Type 0
+ReadsValueList N n = Items N (is_mark close_brace) next (λ k. ReadsNew N 1024 k value_name) false n
+
 abbrev pub ReadsValues : (ℕ → Sight → Type 0) → ℕ → ℕ → Out (List Label) → Type 0
-ReadsValues N n = Then (Takes N (the_mark open_brace)) (λ _. Items N (is_mark close_brace) next (λ k. ReadsNew N 1024 k value_name) false n)
+ReadsValues N n = Then (Takes N (the_mark open_brace)) (λ s. ReadsValueList N n)
 
 -- INPUT OBJECTS AND ARGUMENTS
 
@@ -81,13 +84,17 @@ ReadsValues N n = Then (Takes N (the_mark open_brace)) (λ _. Items N (is_mark c
 abbrev pub ReadsField : (ℕ → Sight → Type 0) → (most n : ℕ) → ℕ → Out Declared → Type 0
 ReadsField N most n = Then (ReadsNew N most n any_name) (ReadsDeclared N)
 
+-- some of them, up to the closing mark
+abbrev pub ReadsFieldList : (ℕ → Sight → Type 0) → Mark → (most n : ℕ) → ℕ → Out (List Declared) → Type 0
+ReadsFieldList N close most n = Items N (is_mark close) next (ReadsField N most) false n
+
 -- after n fields of input objects, the fields of another
 abbrev pub ReadsFields : (ℕ → Sight → Type 0) → ℕ → ℕ → Out (List Declared) → Type 0
-ReadsFields N n = Then (Takes N (the_mark open_brace)) (λ _. Items N (is_mark close_brace) next (ReadsField N 1024) false n)
+ReadsFields N n = Then (Takes N (the_mark open_brace)) (λ s. ReadsFieldList N close_brace 1024 n)
 
 -- after n arguments of directives, those of another
 abbrev pub ReadsArguments : (ℕ → Sight → Type 0) → ℕ → ℕ → Out (List Declared) → Type 0
-ReadsArguments N n = IfMark N open_paren (λ s. Items N (is_mark close_paren) next (ReadsField N 256) false n) (Gives [])
+ReadsArguments N n = IfMark N open_paren (λ s. ReadsFieldList N close_paren 256 n) (Gives [])
 
 -- DIRECTIVES
 
@@ -128,32 +135,45 @@ pub data ReadsLocations (N : ℕ → Sight → Type 0) : ℕ → Out (List Locat
 abbrev pub ReadsAllLocations : (ℕ → Sight → Type 0) → ℕ → Out (List Location) → Type 0
 ReadsAllLocations N = IfMark N pipe (λ s. ReadsLocations N) (ReadsLocations N)
 
--- what follows the name and the arguments
-abbrev pub ReadsPlaces : (ℕ → Sight → Type 0) → Label → List Declared → ℕ → Out Definition → Type 0
-ReadsPlaces N l ds = Then (ReadsRepeatable N) (λ r. Then (Takes N (the_word (codes "on"))) (λ _. Maps (a_directive l ds r) (ReadsAllLocations N)))
+-- `repeatable`, if it comes, and `on`
+abbrev pub ReadsManner : (ℕ → Sight → Type 0) → ℕ → Out Bool → Type 0
+ReadsManner N = Then (ReadsRepeatable N) (λ r. Maps (λ s. r) (Takes N (the_word (codes "on"))))
 
--- what follows the word `directive`, after the definitions D
-abbrev pub ReadsDirective : (ℕ → Sight → Type 0) → Document → ℕ → Out Definition → Type 0
-ReadsDirective N D = Then (Takes N (the_mark at_sign)) (λ _. Then (ReadsNew N 64 (length (directives_in D)) any_name) (λ l. Then (ReadsArguments N (length (arguments_in D))) (ReadsPlaces N l)))
+-- how much the definitions before hold, of each kind
+pub record Counts : Type 0 where
+  pub types : ℕ
+  pub values : ℕ
+  pub inputs : ℕ
+  pub directives : ℕ
+  pub arguments : ℕ
+
+-- what follows the word `directive`, after so much
+abbrev pub ReadsDirective : (ℕ → Sight → Type 0) → Counts → ℕ → Out Definition → Type 0
+ReadsDirective N c = Then (Takes N (the_mark at_sign)) (λ s. Then (ReadsNew N 64 c.directives any_name) (λ l. Then (ReadsArguments N c.arguments) (λ ds. Then (ReadsManner N) (λ r. Maps (a_directive l ds r) (ReadsAllLocations N)))))
 
 -- DEFINITIONS
 
+-- what a type is
+pub data Sort : Type 0 where
+  s_scalar : Sort
+  s_enum : Sort
+  s_input : Sort
+  s_output : Sort
+
+-- what a definition begins with
 pub data Keyword : Type 0 where
-  k_scalar : Keyword
-  k_enum : Keyword
-  k_input : Keyword
-  k_output : Keyword
+  k_type : Sort → Keyword
   k_directive : Keyword
 
 abbrev pub keywords : List (Name × Keyword)
 keywords =
-    (codes "scalar", k_scalar)
-    ∷ (codes "enum", k_enum)
-    ∷ (codes "input", k_input)
-    ∷ (codes "type", k_output)
-    ∷ (codes "interface", k_output)
-    ∷ (codes "union", k_output)
-    ∷ (codes "directive", k_directive)
+    (codes "directive", k_directive)
+    ∷ (codes "scalar", k_type s_scalar)
+    ∷ (codes "enum", k_type s_enum)
+    ∷ (codes "input", k_type s_input)
+    ∷ (codes "type", k_type s_output)
+    ∷ (codes "interface", k_type s_output)
+    ∷ (codes "union", k_type s_output)
     ∷ []
 
 abbrev pub a_keyword : ℕ → Lexical → Option Keyword
@@ -163,29 +183,41 @@ a_keyword s (a_number k ds) = none
 a_keyword s (a_string cs) = none
 a_keyword s the_end = none
 
--- the name of a type, after the definitions D
-abbrev pub ReadsTypeName : (ℕ → Sight → Type 0) → Document → ℕ → Out Label → Type 0
-ReadsTypeName N D = ReadsNew N 256 (length (types_in D)) any_name
+-- what follows the name of a type, after so much
+abbrev pub ReadsContents : (ℕ → Sight → Type 0) → Counts → Label → Sort → ℕ → Out Definition → Type 0
+ReadsContents N c l s_scalar = Gives (a_scalar l)
+ReadsContents N c l s_enum = Maps (an_enum l) (ReadsValues N c.values)
+ReadsContents N c l s_input = Maps (an_input l) (ReadsFields N c.inputs)
+ReadsContents N c l s_output = Gives (an_output l)
 
--- what follows a keyword, after the definitions D
-abbrev pub ReadsAfter : (ℕ → Sight → Type 0) → Document → Keyword → ℕ → Out Definition → Type 0
-ReadsAfter N D k_scalar = Maps a_scalar (ReadsTypeName N D)
-ReadsAfter N D k_enum = Then (ReadsTypeName N D) (λ l. Maps (an_enum l) (ReadsValues N (length (values_in D))))
-ReadsAfter N D k_input = Then (ReadsTypeName N D) (λ l. Maps (an_input l) (ReadsFields N (length (inputs_in D))))
-ReadsAfter N D k_output = Maps an_output (ReadsTypeName N D)
-ReadsAfter N D k_directive = ReadsDirective N D
+abbrev pub ReadsTypeDefinition : (ℕ → Sight → Type 0) → Counts → Sort → ℕ → Out Definition → Type 0
+ReadsTypeDefinition N c k = Then (ReadsNew N 256 c.types any_name) (λ l. ReadsContents N c l k)
 
-abbrev pub ReadsDefinition : (ℕ → Sight → Type 0) → Document → ℕ → Out Definition → Type 0
-ReadsDefinition N D = Then (Takes N a_keyword) (ReadsAfter N D)
+abbrev pub ReadsAfter : (ℕ → Sight → Type 0) → Counts → Keyword → ℕ → Out Definition → Type 0
+ReadsAfter N c (k_type k) = ReadsTypeDefinition N c k
+ReadsAfter N c k_directive = ReadsDirective N c
 
-abbrev pub after_all : Document → Definition → Document
-after_all D d = D ++ d ∷ []
+abbrev pub ReadsDefinition : (ℕ → Sight → Type 0) → Counts → ℕ → Out Definition → Type 0
+ReadsDefinition N c = Then (Takes N a_keyword) (ReadsAfter N c)
 
--- the definitions from i on, after the definitions D
-abbrev pub ReadsOn : (ℕ → Sight → Type 0) → Document → ℕ → Out Document → Type 0
-ReadsOn N D = Items N ends after_all (ReadsDefinition N) true D
+abbrev pub nothing : Counts
+nothing = record { types = 0; values = 0; inputs = 0; directives = 0; arguments = 0 }
+
+-- with one definition more
+abbrev pub counted : Counts → Definition → Counts
+counted c d = record {
+  types = c.types + length (type_of d);
+  values = c.values + length (values_of d);
+  inputs = c.inputs + length (inputs_of d);
+  directives = c.directives + length (directive_of d);
+  arguments = c.arguments + length (arguments_of d);
+}
+
+-- the definitions from i on, after so much
+abbrev pub ReadsOn : (ℕ → Sight → Type 0) → Counts → ℕ → Out Document → Type 0
+ReadsOn N c = Items N ends counted (ReadsDefinition N) true c
 
 -- a whole text: its length, and then what it says
 pub data ReadsSchema (text : List ℕ) : Out Document → Type 0 where
   schema_long : 65535 < length text → ReadsSchema text (fails (BadText 0))
-  schema_read : {o : Out Document} → length text ≤ 65535 → ReadsOn (Sights Graphql text) [] 0 o → ReadsSchema text o
+  schema_read : {o : Out Document} → length text ≤ 65535 → ReadsOn (Sights Graphql text) nothing 0 o → ReadsSchema text o

@@ -1,4 +1,9 @@
 // Where directives may stand (section 3.13).
+ghost use Rattle.std.specs.Prelude.{◌≡◌, List};
+ghost use Rattle.model.specs.Values.{Location as Place};
+ghost use Rattle.schema.specs.Locations.{location_in, location_number};
+ghost use Rattle.schema.specs.LocationTold.{location_of};
+ghost use Rattle.schema.specs.Holds.{LocationsHeld};
 
 // DirectiveLocation of the standard.
 #[derive(Clone, Copy, Debug, PartialEq)]
@@ -71,7 +76,9 @@ impl Locations {
         flags: [false; LOCATION_COUNT],
     };
 
-    pub fn contains(self, location: Location) -> bool {
+    pub fn contains(self, location: Location) -> bool
+        ensures { (ls : List Place) → LocationsHeld self ls → result ≡ location_in ls (location_number (location_of location)) }
+    {
         self.flags[location as usize]
     }
 
