@@ -7,7 +7,7 @@ use Rattle.std.proofs.lemmas.List.Sums.{fails_before_first}
 use Rattle.std.proofs.lemmas.Slice.Eq.{bytes_eq-Decides}
 use Rattle.std.specs.List.{position, position_or_len}
 use Rattle.std.specs.Str.{bytes_eq}
-use Rattle.lookup.specs.First.{First}
+use Rattle.lookup.specs.First.{First, Distinct, Only}
 
 past : (i n : ℕ) → None ≡ cond (nat_lt i n) (Some i) None → n ≤ i
 past i n e = grind (arith, nat_tests)
@@ -34,3 +34,8 @@ module _ {R : Type 0} (called : R → List ℕ) (name : List ℕ) where
   first_at [] None e = λ k h. absurd (omega arith)
   first_at [] (Some i) e = cc
   first_at (x ∷ xs) r e = found (x ∷ xs) x r e
+
+-- where no name stands twice, the first is the only one
+pub only_first : (names : List (List ℕ)) (name : List ℕ) (r : Option ℕ) → First names name r → Distinct names → Only names name r
+only_first names name None f once = f
+only_first names name (Some i) f once = (f.0, f.1, λ k h e. once k i h f.0 (e ∙ sym f.1))

@@ -1,10 +1,16 @@
 // Finding a record by its name.
 #![tactic(auto)]
 
-ghost use Rattle.std.specs.Prelude.{◌≡◌, ℕ, List, map, length};
+ghost use Rattle.std.specs.Prelude.{◌≡◌, ℕ, List, map, length, slice_get};
 ghost use Rattle.std.specs.List.{position};
+ghost use Rattle.std.specs.Option.{option_copied};
 ghost use Rattle.std.specs.Str.{bytes_eq};
-ghost use Rattle.lookup.specs.First.{First};
+ghost use Rattle.lookup.specs.First.{First, Distinct, Only};
+
+pub mod hash;
+pub mod index;
+#[cfg(test)]
+mod tests;
 
 // What has a name.
 pub trait Named {
@@ -14,14 +20,19 @@ pub trait Named {
         ensures { result.now ≡ called self.now };
 }
 
-// Records, of which one is found by its name.
+// Names in an order, each with its number; by the names of records, these are found.
 pub trait Lookup {
-    // The names of the records, in their order.
+    // The names, in their order.
     ghost names: { Self → List (List ℕ) };
 
-    // The first record with the name.
+    // The number of the name, and where it stands twice, that of its first place.
     fn find(&self, name: &[u8]) -> Option<usize>
-        ensures { First (names self.now) name.now result };
+        ensures first { First (names self.now) name.now result }
+        ensures only { Distinct (names self.now) → Only (names self.now) name.now result };
+
+    // The name that has the number.
+    fn name(&self, number: usize) -> Option<&[u8]>
+        ensures { option_copied result ≡ slice_get (names self.now) number };
 
     fn len(&self) -> usize
         ensures { result ≡ length (names self.now) };
@@ -54,6 +65,10 @@ impl<R: Named> Lookup for Table<'_, R> {
 
     fn find(&self, name: &[u8]) -> Option<usize> {
         first(self.records, name)
+    }
+
+    fn name(&self, number: usize) -> Option<&[u8]> {
+        Some(self.records.get(number)?.name())
     }
 
     fn len(&self) -> usize {
