@@ -1,7 +1,8 @@
 -- The functions on types and on the usage of variables say what the standard's algorithms say.
-use Rattle.std.proofs.Common.{◌≡◌, Bool, true, false, cond, not, ◌&&◌, ◌||◌, ◌⊎◌, inl, inr, refl, sym}
+use Rattle.std.proofs.Common.{◌≡◌, ℕ, Bool, true, false, cond, not, ◌&&◌, ◌||◌, ◌⊎◌, inl, inr, ⊎_elim, refl, sym, subst}
+use mathlib.Core.Option.{Option, none, some}
 use Rattle.std.proofs.lemmas.Bool.{both_ways}
-use Rattle.model.specs.Values.{Ty, named, list_of, nullable, Field}
+use Rattle.model.specs.Values.{Raw, null, Ty, named, list_of, nullable, Field}
 use Rattle.model.specs.Checking.{AreTypesCompatible, non_null_location, non_null_variable, list_location, identical, IsVariableUsageAllowed, by_default, by_type, is_value, as_nullable, compatible, usage_allowed}
 use Rattle.model.specs.CheckLaws.{UsageExactly}
 use Rattle.model.proofs.CoNames.{same_refl, same_true}
@@ -56,11 +57,25 @@ both : (b c : Bool) → b && c ≡ true → (b ≡ true) × (c ≡ true)
 both true c e = (refl, e)
 both false c e = absurd_bool e
 
+not_null : (x : Raw) → is_value (some x) ≡ true → (at : ℕ) → x ≡ null at → ⊥
+not_null x h at e = absurd_bool (subst (λ y. is_value (some y) ≡ true) e h)
+
+default_means : (o : Option Raw) → is_value o ≡ true → (x : Raw) × (o ≡ some x) × ((at : ℕ) → x ≡ null at → ⊥)
+default_means none e = absurd_bool e
+default_means (some x) e = (x, refl, not_null x e)
+
+null_or_value : (x : Raw) → ((at : ℕ) → x ≡ null at → ⊥) → is_value (some x) ≡ true
+null_or_value (null at) h = absurd (h at refl)
+null_or_value x h = refl
+
+means_default : (o : Option Raw) → (x : Raw) × (o ≡ some x) × ((at : ℕ) → x ≡ null at → ⊥) → is_value o ≡ true
+means_default o h = subst (λ p. is_value p ≡ true) (sym h.1) (null_or_value h.0 h.2)
+
 allowed_means : (v : Field) (d : Bool) (l : Ty) (b c : Bool) → nullable l ≡ b → nullable v.ty ≡ c → cond (not b && c) ((is_value v.dflt || d) && compatible v.ty (as_nullable l)) (compatible v.ty l) ≡ true → IsVariableUsageAllowed v d l
 allowed_means v d l true c e f k = by_type (inl e) (compatible_means v.ty l k)
 allowed_means v d l false true e f k =
     let w = both (is_value v.dflt || d) (compatible v.ty (as_nullable l)) k in
-    by_default e f (either (is_value v.dflt) d w.0) (compatible_means v.ty (as_nullable l) w.1)
+    by_default e f (⊎_elim (λ z. inl (default_means v.dflt z)) (λ z. inr z) (either (is_value v.dflt) d w.0)) (compatible_means v.ty (as_nullable l) w.1)
 allowed_means v d l false false e f k = by_type (inr f) (compatible_means v.ty l k)
 
 by_type_allowed : (b c x y : Bool) → (b ≡ true) ⊎ (c ≡ false) → y ≡ true → cond (not b && c) x y ≡ true
@@ -70,7 +85,7 @@ by_type_allowed false true x y (inl e) k = absurd_bool e
 by_type_allowed false true x y (inr e) k = absurd (both_ways true e refl)
 
 means_allowed : {v : Field} {d : Bool} {l : Ty} → IsVariableUsageAllowed v d l → usage_allowed v d l ≡ true
-means_allowed {v} (by_default {d = d} {l = l} e f g a) = rw (e, f, means_either (is_value v.dflt) d g) (means_compatible a)
+means_allowed {v} (by_default {d = d} {l = l} e f g a) = rw (e, f, means_either (is_value v.dflt) d (⊎_elim (λ z. inl (means_default v.dflt z)) (λ z. inr z) g)) (means_compatible a)
 means_allowed {v} (by_type {d = d} {l = l} g a) = by_type_allowed (nullable l) (nullable v.ty) _ (compatible v.ty l) g (means_compatible a)
 
 pub allowed_exactly : (v : Field) (d : Bool) (l : Ty) → (usage_allowed v d l ≡ true → IsVariableUsageAllowed v d l) × (IsVariableUsageAllowed v d l → usage_allowed v d l ≡ true)

@@ -56,15 +56,13 @@ pub data AreTypesCompatible : Ty → Ty → Type 0 where
   list_location : {v l : Ty} → AreTypesCompatible v l → AreTypesCompatible (list_of true v) (list_of true l)
   identical : {m n : Name} → m ≡ n → AreTypesCompatible (named true m) (named true n)
 
--- there is a value, and it is not null
-abbrev pub is_value : Option Raw → Bool
-is_value none = false
-is_value (some (null at)) = false
-is_value (some x) = true
+-- a variable's default exists and is not the value null
+abbrev pub HasNonNullDefault : Field → Type 0
+HasNonNullDefault v = (x : Raw) × (v.dflt ≡ some x) × ((at : ℕ) → x ≡ null at → ⊥)
 
--- IsVariableUsageAllowed of a variable, at a location with a default or without, of a type
+-- IsVariableUsageAllowed of a variable, at a location with a default (true) or without, of a type
 pub data IsVariableUsageAllowed (v : Field) : Bool → Ty → Type 0 where
-  by_default : {d : Bool} {l : Ty} → nullable l ≡ false → nullable v.ty ≡ true → (is_value v.dflt ≡ true) ⊎ (d ≡ true) → AreTypesCompatible v.ty (as_nullable l) → IsVariableUsageAllowed v d l
+  by_default : {d : Bool} {l : Ty} → nullable l ≡ false → nullable v.ty ≡ true → HasNonNullDefault v ⊎ (d ≡ true) → AreTypesCompatible v.ty (as_nullable l) → IsVariableUsageAllowed v d l
   by_type : {d : Bool} {l : Ty} → (nullable l ≡ true) ⊎ (nullable v.ty ≡ false) → AreTypesCompatible v.ty l → IsVariableUsageAllowed v d l
 
 -- the same as functions; a nullable variable stands at a nullable location only
@@ -73,6 +71,12 @@ compatible (named b m) (named c n) = (not b || c) && same m n
 compatible (named b m) (list_of c l) = false
 compatible (list_of b v) (named c n) = false
 compatible (list_of b v) (list_of c l) = (not b || c) && compatible v l
+
+-- there is a value, and it is not null
+abbrev pub is_value : Option Raw → Bool
+is_value none = false
+is_value (some (null at)) = false
+is_value (some x) = true
 
 abbrev pub usage_allowed : Field → Bool → Ty → Bool
 usage_allowed v d l = cond (not (nullable l) && nullable v.ty) ((is_value v.dflt || d) && compatible v.ty (as_nullable l)) (compatible v.ty l)

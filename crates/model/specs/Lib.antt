@@ -21,3 +21,4 @@ pub mod Laws
 pub mod CheckLaws
 pub mod CycleLaws
 pub mod Cases
+pub mod CheckCases

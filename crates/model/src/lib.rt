@@ -2,6 +2,7 @@
 #![tactic(auto)]
 
 ghost use Rattle.model.specs.Cases.{WorkedCases};
+ghost use Rattle.model.specs.CheckCases.{CheckedCases};
 ghost use Rattle.model.specs.Laws.{WholeAsDecimal, SameNumber, ScalarsExactly, OutcomeStays, AllSettle, AcceptsExactly, TakesOnce, WalkAgrees, WalkFits, EncodeInjective, SizeIsLength, DecodesOnce, AcceptsConforming, AcceptsWithin, ComesBack, SameWhenAlike, RunsStand, LoadCoerces, ExtentsCut, EqualBytesWhenAlike, LoadsBack, ShownAreTwins, PlacesDoNotMatter};
 ghost use Rattle.model.specs.CycleLaws.{AcyclicSettles, CyclesNeverSettle, AcyclicExactly, AcyclicWhenTaken, CyclesByNumber, NumberedOnce};
 ghost use Rattle.model.specs.CheckLaws.{UsageExactly, UncoercibleExactly, FindsTheBroken, SilenceIsCoercion, TwinsFindAlike};
@@ -179,4 +180,9 @@ pub fn silence_is_coercion_stands()
 // In values that are the same but for their places, the literal check finds the same kinds.
 pub fn twins_find_alike_stands()
     ensures { TwinsFindAlike }
+{}
+
+// In each worked case the literal check finds what it says, computed from the definition.
+pub fn checked_cases_stand()
+    ensures { CheckedCases }
 {}
