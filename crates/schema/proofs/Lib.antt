@@ -1,2 +1,4 @@
 pub mod CursorLaws
 pub mod Listing
+pub mod Readings
+pub mod Taking

@@ -1,53 +1,30 @@
 -- The laws of the cursor over a text: each of its functions has one answer and leaves one place, and what is passed is one token.
-use Rattle.std.specs.Prelude.{◌≡◌, ℕ, Bool, true, List, drop, Some, None, Option, Ok, Err, Result}
-use Rattle.text.specs.TokenFound.{View, view_of, Holds}
-use Rattle.text.specs.TokenGrammar.{Lexical, a_name, Skips, Ignored, TokenOf}
-use Rattle.text.specs.declared.fault.Fault.{Fault}
+use Rattle.std.specs.Prelude.{◌≡◌, ℕ, true, List, Some, None}
+use Rattle.text.specs.TokenGrammar.{Lexical, a_name}
+use Rattle.text.specs.TokenFound.{View}
 use Rattle.text.specs.declared.language.Language.TheVariants.{Graphql}
-use Rattle.text.specs.declared.token.Token.{Token}
-use Rattle.schema.specs.declared.tokens.Name.{Name}
-use Rattle.schema.specs.declared.tokens.Tokens.{Tokens}
-use Rattle.schema.specs.Reading.{NameTold, ExpectTold, EatTold}
+use Rattle.reader.specs.Tokens.{Sight, Sights, TokenIs}
+use Rattle.reader.specs.Reading.{Out, got}
+use Rattle.schema.specs.Documents.{Label}
+use Rattle.schema.specs.Outcomes.{Takes, any_name}
+use Rattle.schema.specs.Told.{is_token, the_token, TokenIfAny}
 
--- what a name says, without references
-abbrev pub said : Result Name Fault → Result (List ℕ × ℕ) Fault
-said (Ok n) = Ok (n.name.now, n.place)
-said (Err f) = Err f
+-- from one place of one text, reading R has one outcome
+abbrev pub Once : {X : Type 0} → ((ℕ → Sight → Type 0) → ℕ → Out X → Type 0) → Type 0
+Once {X} R = (text : List ℕ) (i : ℕ) (o p : Out X) → R (Sights Graphql text) i o → R (Sights Graphql text) i p → o ≡ p
 
--- the test that answers as D does, by the token without references
-abbrev pub Test : (View → Bool) → Token → Bool → Type 0
-Test D t b = b ≡ D (view_of t)
-
--- from one place of one text there is one answer, and one place is left
 pub record OneCursor : Type 0 where
-  pub name : (old v w : Tokens) (r s : Result Name Fault) → NameTold old v r → NameTold old w s → (said r ≡ said s) × (v.at ≡ w.at)
-  pub expect : (D : View → Bool) (old v w : Tokens) (r s : Result (Unit {0}) Fault) → ExpectTold (Test D) old v r → ExpectTold (Test D) old w s → (r ≡ s) × (v.at ≡ w.at)
-  pub eat : (D : View → Bool) (old v w : Tokens) (r s : Result (Option ℕ) Fault) → EatTold (Test D) old v r → EatTold (Test D) old w s → (r ≡ s) × (v.at ≡ w.at)
+  pub name : Once (λ N. Takes N any_name)
+  pub expect : (v : View) → Once (λ N. Takes N (the_token v))
+  pub eat : (v : View) → Once (λ N. TokenIfAny N (is_token v))
 
--- after what is ignored the token x of the grammar stands at start, and no more than that was passed
-pub record Passed (old new : Tokens) (start : ℕ) (x : Lexical) : Type 0 where
-  pub same : new.text.now ≡ old.text.now
-  pub skips : Skips (Ignored Graphql) (drop old.at old.text.now) (drop start old.text.now)
-  pub reads : TokenOf Graphql (drop start old.text.now) x (drop new.at old.text.now)
+-- a token of the grammar that is the program's token
+abbrev pub StandsAs : View → List ℕ → (i start end : ℕ) → Type 0
+StandsAs v text i s e = (x : Lexical) × TokenIs Graphql text i s e x × (is_token v x ≡ true)
 
--- the same, of a token of which the test holds
-pub record PassedBy (D : View → Bool) (old new : Tokens) (start : ℕ) : Type 0 where
-  pub token : View
-  pub tested : D token ≡ true
-  pub stands : Lexical
-  pub holds : Holds Graphql old.text.now start new.at token stands
-  pub passed : Passed old new start stands
-
--- nothing is passed
-abbrev pub Stays : Tokens → Tokens → Type 0
-Stays old new = (new.text.now ≡ old.text.now) × (new.at ≡ old.at)
-
--- exactly one token is passed, or none
+-- exactly one token of the grammar is passed, or none
 pub record PassesOne : Type 0 where
-  pub name : (old new : Tokens) (n : Name) → NameTold old new (Ok n) → Passed old new n.place (a_name n.name.now)
-  pub unnamed : (old new : Tokens) (f : Fault) → NameTold old new (Err f) → Stays old new
-  pub expect : (D : View → Bool) (old new : Tokens) → ExpectTold (Test D) old new (Ok tt) → (start : ℕ) × PassedBy D old new start
-  pub unexpected : (D : View → Bool) (old new : Tokens) (f : Fault) → ExpectTold (Test D) old new (Err f) → Stays old new
-  pub eat : (D : View → Bool) (old new : Tokens) (start : ℕ) → EatTold (Test D) old new (Ok (Some start)) → PassedBy D old new start
-  pub left : (D : View → Bool) (old new : Tokens) → EatTold (Test D) old new (Ok None) → Stays old new
-  pub refused : (D : View → Bool) (old new : Tokens) (f : Fault) → EatTold (Test D) old new (Err f) → Stays old new
+  pub name : (text : List ℕ) (i j : ℕ) (l : Label) → Takes (Sights Graphql text) any_name i (got j l) → TokenIs Graphql text i l.place j (a_name l.name)
+  pub expect : (v : View) (text : List ℕ) (i s j : ℕ) → Takes (Sights Graphql text) (the_token v) i (got j s) → StandsAs v text i s j
+  pub eat : (v : View) (text : List ℕ) (i s j : ℕ) → TokenIfAny (Sights Graphql text) (is_token v) i (got j (Some s)) → StandsAs v text i s j
+  pub left : (v : View) (text : List ℕ) (i j : ℕ) → TokenIfAny (Sights Graphql text) (is_token v) i (got j None) → i ≡ j

@@ -12,4 +12,5 @@ pub mod Reading
 pub mod Rows
 pub mod Holds
 pub mod SchemaTold
+pub mod Told
 pub mod Words

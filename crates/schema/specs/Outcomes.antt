@@ -60,13 +60,16 @@ abbrev pub Chosen : Bool → Type 0 → Type 0 → Type 0
 Chosen true P Q = P
 Chosen false P Q = Q
 
--- by what is seen: B from behind the mark, which starts at s, else C
-abbrev pub Chooses : {X : Type 0} → Mark → (ℕ → ℕ → Out X → Type 0) → (ℕ → Out X → Type 0) → Sight → ℕ → Out X → Type 0
-Chooses m B C (sees s e x) i o = Chosen (is_mark m x) (B s e o) (C i o)
-Chooses m B C (blind f) i o = fails f ≡ o
+-- by what is seen: B from behind a token of the test, which starts at s, else C
+abbrev pub Chooses : {X : Type 0} → (Lexical → Bool) → (ℕ → ℕ → Out X → Type 0) → (ℕ → Out X → Type 0) → Sight → ℕ → Out X → Type 0
+Chooses test B C (sees s e x) i o = Chosen (test x) (B s e o) (C i o)
+Chooses test B C (blind f) i o = fails f ≡ o
+
+abbrev pub IfToken : {X : Type 0} → (ℕ → Sight → Type 0) → (Lexical → Bool) → (ℕ → ℕ → Out X → Type 0) → (ℕ → Out X → Type 0) → ℕ → Out X → Type 0
+IfToken N test B C = Sees N (Chooses test B C)
 
 abbrev pub IfMark : {X : Type 0} → (ℕ → Sight → Type 0) → Mark → (ℕ → ℕ → Out X → Type 0) → (ℕ → Out X → Type 0) → ℕ → Out X → Type 0
-IfMark N m B C = Sees N (Chooses m B C)
+IfMark N m = IfToken N (is_mark m)
 
 -- one more, where there are n and may be `most`; else the name at p is the surplus one
 abbrev pub Room : (n most p : ℕ) → ℕ → Out (Unit {0}) → Type 0

@@ -22,7 +22,7 @@ pub fn declared<'a>(tokens: &mut Tokens<'a>, nodes: &mut Nodes) -> Result<Declar
     ensures levels { IfOk result (λ d. d.ty.shape.levels ≤ 8) }
     ensures default { IfOk result (λ d. IfSome d.default (λ root. root ≡ vec_len nodes.old.list)) }
 {
-    tokens.expect(|token| matches!(token, Token::Colon))?;
+    tokens.expect(Token::Colon)?;
     let ty = types::read_type(tokens)?;
     let default = default_value(tokens, nodes)?;
     Ok(Declaration { ty, default })
@@ -33,10 +33,7 @@ fn default_value(tokens: &mut Tokens<'_>, nodes: &mut Nodes) -> Result<Option<us
     ensures onward { IfOk result (λ _. Onward 0 tokens.old tokens.new) }
     ensures default { IfOk result (λ default. IfSome default (λ root. root ≡ vec_len nodes.old.list)) }
 {
-    if tokens
-        .eat(|token| matches!(token, Token::Equals))?
-        .is_none()
-    {
+    if tokens.eat(Token::Equals)?.is_none() {
         return Ok(None);
     }
     Ok(Some(tokens.literal(nodes)?))

@@ -98,7 +98,7 @@ fn contents<'a>(
     ensures few { Few schema.new }
 {
     if kind == TypeKind::Enum || kind == TypeKind::Input {
-        tokens.expect(|token| matches!(token, Token::OpenBrace))?;
+        tokens.expect(Token::OpenBrace)?;
     }
     match kind {
         TypeKind::Enum => enum_values(tokens, &mut schema.values),
@@ -187,12 +187,12 @@ fn directive<'a>(tokens: &mut Tokens<'a>, schema: &mut Schema<'a>) -> Result<(),
     ensures onward { IfOk result (λ _. Onward 1 tokens.old tokens.new) }
     ensures few { Few schema.new }
 {
-    tokens.expect(|token| matches!(token, Token::At))?;
+    tokens.expect(Token::At)?;
     let Name { name, place } = tokens.name()?;
     if schema.directives.len() >= MOST_DIRECTIVES {
         return Err(Fault::NoSpace(place));
     }
-    let arguments = match tokens.eat(|token| matches!(token, Token::OpenParen))? {
+    let arguments = match tokens.eat(Token::OpenParen)? {
         Some(_) => fields(
             tokens,
             Token::CloseParen,
@@ -202,10 +202,8 @@ fn directive<'a>(tokens: &mut Tokens<'a>, schema: &mut Schema<'a>) -> Result<(),
         )?,
         None => Span::EMPTY,
     };
-    let repeatable = tokens
-        .eat(|token| matches!(token, Token::Name(b"repeatable")))?
-        .is_some();
-    tokens.expect(|token| matches!(token, Token::Name(b"on")))?;
+    let repeatable = tokens.eat(Token::Name(b"repeatable"))?.is_some();
+    tokens.expect(Token::Name(b"on"))?;
     let locations = locations(tokens)?;
     schema.directives.push(Directive {
         name,
@@ -222,12 +220,12 @@ fn locations(tokens: &mut Tokens<'_>) -> Result<Locations, Fault>
     ensures { IfOk result (λ _. Onward 1 tokens.old tokens.new) }
 {
     let mut locations = Locations::NONE;
-    tokens.eat(|token| matches!(token, Token::Pipe))?;
+    tokens.eat(Token::Pipe)?;
     loop {
         let Name { name, place } = tokens.name()?;
         let location = Location::named(name).ok_or(Fault::BadText(place))?;
         locations = locations.with(location);
-        if tokens.eat(|token| matches!(token, Token::Pipe))?.is_none() {
+        if tokens.eat(Token::Pipe)?.is_none() {
             return Ok(locations);
         }
     }

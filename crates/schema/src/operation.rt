@@ -133,18 +133,20 @@ pub fn read_operation<'a>(
 {
     let mut tokens = Tokens::new(text)?;
     let kind = operation_kind(&mut tokens)?;
-    tokens.eat(|token| matches!(token, Token::Name(_)))?;
+    if let Token::Name(_) = tokens.peek()?.token {
+        tokens.next()?;
+    }
     let mut nodes = Nodes::new(heap);
-    let variables = match tokens.eat(|token| matches!(token, Token::OpenParen))? {
+    let variables = match tokens.eat(Token::OpenParen)? {
         Some(_) => definitions(heap, schema, &mut tokens, &mut nodes)?,
         None => Vec::new(heap),
     };
     let mut uses = Vec::new(heap);
     let mut arguments = Vec::new(heap);
-    while let Some(place) = tokens.eat(|token| matches!(token, Token::At))? {
+    while let Some(place) = tokens.eat(Token::At)? {
         uses.push(directive_use(place, &mut tokens, &mut arguments, &mut nodes)?)?;
     }
-    tokens.expect(|token| matches!(token, Token::End))?;
+    tokens.expect(Token::End)?;
     Ok(Operation {
         kind,
         variables,
@@ -208,7 +210,7 @@ fn directive_use<'a>(
     ensures { IfOk result (λ _. Onward 1 tokens.old tokens.new) }
 {
     let Name { name, .. } = tokens.name()?;
-    let arguments = match tokens.eat(|token| matches!(token, Token::OpenParen))? {
+    let arguments = match tokens.eat(Token::OpenParen)? {
         Some(_) => arguments_in(tokens, arguments, nodes)?,
         None => Span::EMPTY,
     };
@@ -232,7 +234,7 @@ fn arguments_in<'a>(
         let Lexeme { token, start, .. } = tokens.next()?;
         match token {
             Token::Name(name) => {
-                tokens.expect(|token| matches!(token, Token::Colon))?;
+                tokens.expect(Token::Colon)?;
                 let value = tokens.literal(nodes)?;
                 arguments.push(Argument {
                     name,

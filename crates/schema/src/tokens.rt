@@ -1,7 +1,7 @@
 // Reading the tokens of a text one after the other.
-ghost use Rattle.std.specs.Prelude.{◌≡◌, ◌<◌, ◌≤◌, ◌+◌, length, vec_len, Ok, Err, IfOk, MatchResult, IsOkAnd, is_ok};
+ghost use Rattle.std.specs.Prelude.{◌≡◌, ◌<◌, ◌≤◌, ◌+◌, length, vec_len, Ok, Err, IfOk, MatchResult, IsOkAnd, Some, None, is_ok};
 ghost use Rattle.text.specs.Places.{Placed, is_end};
-ghost use Rattle.text.specs.TokenFound.{TokenTold};
+ghost use Rattle.text.specs.TokenFound.{TokenTold, view_of};
 ghost use Rattle.text.specs.declared.fault.Fault.TheVariants.{BadText};
 ghost use Rattle.text.specs.declared.language.Language.TheVariants.{Graphql};
 
@@ -40,7 +40,9 @@ pub struct Tokens<'a> {
 }
 
 impl<'a> Tokens<'a> {
-    ghost use Rattle.schema.specs.Reading.{Onward, NameTold, ExpectTold, EatTold, past};
+    ghost use Rattle.schema.specs.Outcomes.{Takes, any_name};
+    ghost use Rattle.schema.specs.Reading.{Onward, past};
+    ghost use Rattle.schema.specs.Told.{Told, Itself, Labels, Spelled, is_token, the_token, TokenIfAny};
 
     // The whole text, unless it is too long.
     pub fn new(text: &'a [u8]) -> Result<Tokens<'a>, Fault>
@@ -75,7 +77,7 @@ impl<'a> Tokens<'a> {
 
     // The next token, which is to be a name.
     pub fn name(&mut self) -> Result<Name<'a>, Fault>
-        ensures told { NameTold self.old self.new result }
+        ensures told { Told 1 (λ N. Takes N any_name) Labels self.old self.new result }
         ensures onward { IfOk result (λ _. Onward 1 self.old self.new) }
     {
         let lexeme = self.peek()?;
@@ -89,33 +91,30 @@ impl<'a> Tokens<'a> {
         })
     }
 
-    // Passes the next token, of which the test is to hold.
-    pub fn expect<F: FnOnce(Token<'a>) -> bool>(&mut self, wanted: F) -> Result<(), Fault>
-        requires { F.IsAlwaysCallable wanted }
-        ensures told { ExpectTold (F.post wanted) self.old self.new result }
+    // Passes the next token, which is to be this one, and says where it began.
+    pub fn expect(&mut self, wanted: Token<'_>) -> Result<usize, Fault>
+        ensures told { Spelled (view_of wanted.entry) → Told 0 (λ N. Takes N (the_token (view_of wanted.entry))) Itself self.old self.new result }
         ensures onward { IfOk result (λ _. Onward 0 self.old self.new) }
     {
         let lexeme = self.peek()?;
-        if !wanted(lexeme.token) {
+        if lexeme.token != wanted {
             return Err(Fault::BadText(lexeme.start));
         }
         self.at = lexeme.end;
-        Ok(())
+        Ok(lexeme.start)
     }
 
-    // Passes the next token if the test holds of it, and says where it began.
-    pub fn eat<F: FnOnce(Token<'a>) -> bool>(&mut self, wanted: F) -> Result<Option<usize>, Fault>
-        requires { F.IsAlwaysCallable wanted }
-        ensures told { EatTold (F.post wanted) self.old self.new result }
+    // Passes the next token if it is this one, and says where it began.
+    pub fn eat(&mut self, wanted: Token<'_>) -> Result<Option<usize>, Fault>
+        ensures told { Spelled (view_of wanted.entry) → Told 0 (λ N. TokenIfAny N (is_token (view_of wanted.entry))) Itself self.old self.new result }
         ensures onward { IfOk result (λ _. Onward 0 self.old self.new) }
     {
         let lexeme = self.peek()?;
-        if wanted(lexeme.token) {
-            self.at = lexeme.end;
-            Ok(Some(lexeme.start))
-        } else {
-            Ok(None)
+        if lexeme.token != wanted {
+            return Ok(None);
         }
+        self.at = lexeme.end;
+        Ok(Some(lexeme.start))
     }
 
     // Adds the nodes of the literal that comes next: its cursor.

@@ -109,7 +109,7 @@ pub(crate) fn read_type<'a>(tokens: &mut Tokens<'a>) -> Result<Type<'a, ()>, Fau
     let mut non_null = [false; MARKS];
     non_null[0] = non_null_mark(tokens)?;
     for mark in &mut non_null[1..=levels] {
-        tokens.expect(|token| matches!(token, Token::CloseBracket))?;
+        tokens.expect(Token::CloseBracket)?;
         *mark = non_null_mark(tokens)?;
     }
     Ok(Type {
@@ -128,7 +128,7 @@ fn opening(tokens: &mut Tokens<'_>) -> Result<usize, Fault>
     ensures { IfOk result (λ levels. Onward 0 tokens.old tokens.new × (levels ≤ 8)) }
 {
     let mut levels = 0;
-    while let Some(place) = tokens.eat(|token| matches!(token, Token::OpenBracket))? {
+    while let Some(place) = tokens.eat(Token::OpenBracket)? {
         if levels >= MOST_LEVELS {
             return Err(Fault::TooDeep(place));
         }
@@ -141,5 +141,5 @@ fn opening(tokens: &mut Tokens<'_>) -> Result<usize, Fault>
 fn non_null_mark(tokens: &mut Tokens<'_>) -> Result<bool, Fault>
     ensures { IfOk result (λ _. Onward 0 tokens.old tokens.new) }
 {
-    Ok(tokens.eat(|token| matches!(token, Token::Bang))?.is_some())
+    Ok(tokens.eat(Token::Bang)?.is_some())
 }
