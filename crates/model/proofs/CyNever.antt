@@ -16,7 +16,7 @@ use Rattle.model.proofs.CySettle.{Found, lacks-found, acyclic_settles}
 use Rattle.model.proofs.CyMeets.{lacks_items, none_in_nil, null_lacks, scalar_lacks, list_lacks, FieldLacks, object_lacks}
 use Rattle.model.proofs.CyNumbers.{one_some, none_some}
 
-one_input : {D : Def} {fs gs : List Field} → D ≡ input_d fs → D ≡ input_d gs → fs ≡ gs
+pub one_input : {D : Def} {fs gs : List Field} → D ≡ input_d fs → D ≡ input_d gs → fs ≡ gs
 one_input p q = cc
 
 custom_input : {D : Def} {fs : List Field} → D ≡ custom_d → D ≡ input_d fs → ⊥

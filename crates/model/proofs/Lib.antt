@@ -11,6 +11,7 @@ pub mod CoScalars
 pub mod CoTakes
 pub mod CoTwins
 pub mod CyPaths
+pub mod CyRows
 pub mod CyWithin
 pub mod CyMeets
 pub mod CySettle
@@ -18,6 +19,7 @@ pub mod CyNumbers
 pub mod CyNever
 pub mod CyOnce
 pub mod CyTaken
+pub mod CyCases
 pub mod NumLaws
 pub mod WalkAgrees
 pub mod WalkFits

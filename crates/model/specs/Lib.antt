@@ -22,3 +22,4 @@ pub mod CheckLaws
 pub mod CycleLaws
 pub mod Cases
 pub mod CheckCases
+pub mod CycleCases

@@ -3,6 +3,7 @@
 
 ghost use Rattle.model.specs.Cases.{WorkedCases};
 ghost use Rattle.model.specs.CheckCases.{CheckedCases};
+ghost use Rattle.model.specs.CycleCases.{CycleCases};
 ghost use Rattle.model.specs.Laws.{WholeAsDecimal, SameNumber, ScalarsExactly, OutcomeStays, AllSettle, AcceptsExactly, TakesOnce, WalkAgrees, WalkFits, EncodeInjective, SizeIsLength, DecodesOnce, AcceptsConforming, AcceptsWithin, ComesBack, SameWhenAlike, RunsStand, LoadCoerces, ExtentsCut, EqualBytesWhenAlike, LoadsBack, ShownAreTwins, PlacesDoNotMatter};
 ghost use Rattle.model.specs.CycleLaws.{AcyclicSettles, CyclesNeverSettle, AcyclicExactly, AcyclicWhenTaken, CyclesByNumber, NumberedOnce};
 ghost use Rattle.model.specs.CheckLaws.{UsageExactly, UncoercibleExactly, FindsTheBroken, SilenceIsCoercion, TwinsFindAlike};
@@ -10,6 +11,11 @@ ghost use Rattle.model.specs.CheckLaws.{UsageExactly, UncoercibleExactly, FindsT
 // Each worked case leaves what it says, computed from the definitions.
 pub fn worked_cases_stand()
     ensures { WorkedCases }
+{}
+
+// Each case of default cycles is on a cycle, or is without one, as it says.
+pub fn cycle_cases_stand()
+    ensures { CycleCases }
 {}
 
 // A whole number's decimal is in normal form and worth the same.
