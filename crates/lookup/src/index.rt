@@ -1,34 +1,29 @@
-// An index over any lookup: a hash table of the numbers of the first 256 names.
-ghost use Rattle.std.specs.Prelude.{◌≡◌, ℕ, ◌<◌, ◌↔◌, [], length, slice_get, slice_index_or, IsTrue};
+// An index over any lookup: a hash table of the numbers of its first names.
+ghost use Rattle.std.specs.Prelude.{◌≡◌, ℕ, ◌/◌, ◌<◌, ◌↔◌, min, [], length, slice_get, slice_index_or, IsTrue};
 ghost use Rattle.lookup.specs.Slots.{Sound, Reached, ProbeTold};
 
 use crate::{Lookup, hash};
 
-// The numbers that a byte holds.
-const HELD: usize = 256;
-
-// Twice as many as the numbers, so that a search soon meets an empty slot.
-pub const SLOTS: usize = 2 * HELD;
-
 // The lookup, and at each slot the number of a name. A name is searched for from the slot of its hash on, and the
 // search ends where it meets the name or an empty slot. What it does not meet, the lookup is asked for.
+// Half of the slots are for numbers, so that a search soon meets an empty one: 512 slots hold 256 names.
 #[derive(Drop)]
-pub struct Index<L: Lookup> {
+pub struct Index<L: Lookup, const SLOTS: usize> {
     inner: L,
-    slots: [Option<u8>; SLOTS],
+    slots: [Option<u16>; SLOTS],
     ghost sound: { Sound (L.names inner) slots },
 }
 
 // How a search ends.
 #[derive(Clone, Copy)]
 pub(crate) enum Probe {
-    Held(u8),
+    Held(u16),
     Vacant(usize),
     Full,
 }
 
 // Whether the name has the number.
-fn has<L: Lookup>(inner: &L, number: u8, name: &[u8]) -> bool
+fn has<L: Lookup>(inner: &L, number: u16, name: &[u8]) -> bool
     ensures { IsTrue result ↔ (slice_get (L.names inner.now) number ≡ Some name.now) }
 {
     inner
@@ -37,13 +32,17 @@ fn has<L: Lookup>(inner: &L, number: u8, name: &[u8]) -> bool
 }
 
 // Searches for a name.
-fn search<L: Lookup>(inner: &L, slots: &[Option<u8>; SLOTS], name: &[u8]) -> Probe
+fn search<L: Lookup, const SLOTS: usize>(
+    inner: &L,
+    slots: &[Option<u16>; SLOTS],
+    name: &[u8],
+) -> Probe
     requires { Sound (L.names inner.now) slots.now }
-    ensures { ProbeTold (L.names inner.now) slots.now name.now result }
+    ensures { ProbeTold SLOTS (L.names inner.now) slots.now name.now result }
 {
-    let home = hash::home_of(name);
+    let hash = hash::hash_of(name);
     for step in 0..SLOTS {
-        let slot = (home + step) % SLOTS;
+        let slot = hash.wrapping_add(step) % SLOTS;
         match slots[slot] {
             None => return Probe::Vacant(slot),
             Some(number) if has(inner, number, name) => return Probe::Held(number),
@@ -53,25 +52,25 @@ fn search<L: Lookup>(inner: &L, slots: &[Option<u8>; SLOTS], name: &[u8]) -> Pro
     Probe::Full
 }
 
-// The slots of the first 256 names.
-fn numbered<L: Lookup>(inner: &L) -> [Option<u8>; SLOTS]
+// The slots of the first names.
+fn numbered<L: Lookup, const SLOTS: usize>(inner: &L) -> [Option<u16>; SLOTS]
     ensures sound { Sound (L.names inner.now) result }
-    ensures held { (k : ℕ) → k < HELD → k < length (L.names inner.now) → Reached (L.names inner.now) result (slice_index_or (L.names inner.now) k []) }
+    ensures held { (k : ℕ) → k < min (SLOTS / 2) 65535 → k < length (L.names inner.now) → Reached SLOTS (L.names inner.now) result (slice_index_or (L.names inner.now) k []) }
 {
     let mut slots = [None; SLOTS];
-    for number in 0..HELD {
+    for number in 0..(SLOTS / 2).min(usize::from(u16::MAX)) {
         let Some(name) = inner.name(number) else {
             break;
         };
         if let Probe::Vacant(slot) = search(inner, &slots, name) {
-            slots[slot] = Some(number as u8);
+            slots[slot] = Some(number as u16);
         }
     }
     slots
 }
 
-impl<L: Lookup> Index<L> {
-    pub fn new(inner: L) -> Index<L>
+impl<L: Lookup, const SLOTS: usize> Index<L, SLOTS> {
+    pub fn new(inner: L) -> Index<L, SLOTS>
         ensures { result.inner ≡ inner }
     {
         let slots = numbered(&inner);
@@ -79,7 +78,7 @@ impl<L: Lookup> Index<L> {
     }
 }
 
-impl<L: Lookup> Lookup for Index<L> {
+impl<L: Lookup, const SLOTS: usize> Lookup for Index<L, SLOTS> {
     ghost names = { λ x. L.names x.inner };
 
     fn find(&self, name: &[u8]) -> Option<usize> {
