@@ -133,7 +133,7 @@ mutual
 
 -- WHAT IS BROKEN IS TOLD
 
-abbrev finding : FindingKind → ℕ → Finding
+abbrev pub finding : FindingKind → ℕ → Finding
 finding k p = record { kind = k; place = p }
 
 list_in : (at : ℕ) (contents : List Finding) (D : Def) → (D ≡ custom_d → ⊥) → In (finding unsupported_value_type at) (list_at_name at contents D)
@@ -157,11 +157,11 @@ mutual
   contents_in vs (v_list i) e = all_contents_in vs i e
   contents_in vs (v_object i) e = member_contents_in vs i e
 
-  all_contents_in : (vs : List Variable) {p : ℕ} {n : Name} {xs : Raws} → VariableInAll p n xs → variable_of vs n ≡ none → In (finding undefined_variable p) (undeclared_in_all vs xs)
+  pub all_contents_in : (vs : List Variable) {p : ℕ} {n : Name} {xs : Raws} → VariableInAll p n xs → variable_of vs n ≡ none → In (finding undefined_variable p) (undeclared_in_all vs xs)
   all_contents_in vs {p} (v_item {x = x} {xs = xs} i) e = in_left (finding undefined_variable p) (undeclared_in vs x) (undeclared_in_all vs xs) (contents_in vs i e)
   all_contents_in vs {p} (v_later_item {x = x} {xs = xs} i) e = in_right (finding undefined_variable p) (undeclared_in vs x) (undeclared_in_all vs xs) (all_contents_in vs i e)
 
-  member_contents_in : (vs : List Variable) {p : ℕ} {n : Name} {ms : Mems} → VariableInMems p n ms → variable_of vs n ≡ none → In (finding undefined_variable p) (undeclared_in_mems vs ms)
+  pub member_contents_in : (vs : List Variable) {p : ℕ} {n : Name} {ms : Mems} → VariableInMems p n ms → variable_of vs n ≡ none → In (finding undefined_variable p) (undeclared_in_mems vs ms)
   member_contents_in vs {p} (v_member {x = x} {ms = ms} i) e = in_left (finding undefined_variable p) (undeclared_in vs x) (undeclared_in_mems vs ms) (contents_in vs i e)
   member_contents_in vs {p} (v_later_member {x = x} {ms = ms} i) e = in_right (finding undefined_variable p) (undeclared_in vs x) (undeclared_in_mems vs ms) (member_contents_in vs i e)
 

@@ -44,3 +44,4 @@ pub mod ChScalars
 pub mod ChSilent
 pub mod ChCoerces
 pub mod ChTwins
+pub mod ChFree

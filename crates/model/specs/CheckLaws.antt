@@ -1,10 +1,12 @@
 -- The laws of the literal check, each stated once; small public functions have them as contracts.
-use Rattle.std.specs.Prelude.{◌≡◌, ℕ, suc, Bool, true, List, [], map}
-use Rattle.model.specs.Values.{Name, literal, Scalar, Raw, Ty, Field, Def, Schema, Variable, Plain, Rec}
-use Rattle.model.specs.Refusals.{ok, Here}
+use Rattle.std.specs.Prelude.{◌≡◌, ℕ, suc, Bool, true, ◌⊎◌, List, [], map}
+use Rattle.model.specs.Values.{Name, literal, Scalar, Raw, Raws, Mems, null, scalar, variable, list, object, nil, cons, end, mem, Ty, Field, Def, Schema, Variable, Plain, Rec}
+use Rattle.model.specs.Refusals.{scalar_refused, Refusal, ok, refused, Here}
 use Rattle.model.specs.Scalars.{TakesScalar}
 use Rattle.model.specs.Coercion.{Rule, coerce_at}
+use Rattle.model.specs.Back.{Distinct}
 use Rattle.model.specs.Bounds.{Settles}
+use Rattle.model.specs.Limits.{mem_names}
 use Rattle.model.specs.Checking.{FindingKind, Finding, In, AreTypesCompatible, IsVariableUsageAllowed, compatible, usage_allowed, check, VariableFree, RightDefaults}
 use Rattle.model.specs.Rules.{Uncoercible, Broken}
 use Rattle.model.specs.Twins.{Twin}
@@ -32,6 +34,33 @@ SilenceIsCoercion = (k : ℕ) (S : Schema) (R : Rule) → ((n : Name) (bytes : L
     → (vs : List Variable) (d : Bool) (lone : ℕ) (h : Here) (v : Raw) (t : Ty) → VariableFree v
     → (check S vs d lone v t ≡ [] → (r : Rec) × (coerce_at (suc k) S R literal h v t ≡ ok r))
     × ((r : Rec) → coerce_at (suc k) S R literal h v t ≡ ok r → check S vs d lone v t ≡ [])
+
+-- and under any rule, whatever the check is silent about is coerced, or the rule alone refuses it
+abbrev pub SilenceLeavesTheRule : Type 0
+SilenceLeavesTheRule = (k : ℕ) (S : Schema) (R : Rule) → RightDefaults S → Settles S R k
+    → (vs : List Variable) (d : Bool) (lone : ℕ) (h : Here) (v : Raw) (t : Ty) → VariableFree v → check S vs d lone v t ≡ []
+    → ((r : Rec) × (coerce_at (suc k) S R literal h v t ≡ ok r)) ⊎ ((f : Refusal) × (coerce_at (suc k) S R literal h v t ≡ refused f) × (f.cause ≡ scalar_refused))
+
+-- no object in a value has two members of one name
+abbrev mutual
+  pub NoNameTwice : Raw → Type 0
+  NoNameTwice (null at) = Unit {0}
+  NoNameTwice (scalar at s) = Unit {0}
+  NoNameTwice (variable at n) = Unit {0}
+  NoNameTwice (list at xs) = NoNameTwiceAll xs
+  NoNameTwice (object at ms) = Distinct (mem_names ms) × NoNameTwiceMems ms
+
+  pub NoNameTwiceAll : Raws → Type 0
+  NoNameTwiceAll nil = Unit {0}
+  NoNameTwiceAll (cons x xs) = NoNameTwice x × NoNameTwiceAll xs
+
+  pub NoNameTwiceMems : Mems → Type 0
+  NoNameTwiceMems end = Unit {0}
+  NoNameTwiceMems (mem n x ms) = NoNameTwice x × NoNameTwiceMems ms
+
+-- where no variable is declared, a silent check leaves none anywhere: of a default, silence is enough
+abbrev pub SilenceHoldsNoVariable : Type 0
+SilenceHoldsNoVariable = (S : Schema) (d : Bool) (lone : ℕ) (v : Raw) (t : Ty) → NoNameTwice v → check S [] d lone v t ≡ [] → VariableFree v
 
 -- twins have findings of the same kinds
 abbrev pub TwinsFindAlike : Type 0

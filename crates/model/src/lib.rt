@@ -6,7 +6,7 @@ ghost use Rattle.model.specs.CheckCases.{CheckedCases};
 ghost use Rattle.model.specs.CycleCases.{CycleCases};
 ghost use Rattle.model.specs.Laws.{WholeAsDecimal, SameNumber, ScalarsExactly, OutcomeStays, AllSettle, AcceptsExactly, TakesOnce, WalkAgrees, WalkFits, EncodeInjective, SizeIsLength, DecodesOnce, AcceptsConforming, AcceptsWithin, ComesBack, SameWhenAlike, RunsStand, LoadCoerces, ExtentsCut, EqualBytesWhenAlike, LoadsBack, ShownAreTwins, PlacesDoNotMatter};
 ghost use Rattle.model.specs.CycleLaws.{AcyclicSettles, CyclesNeverSettle, AcyclicExactly, AcyclicWhenTaken, CyclesByNumber, NumberedOnce};
-ghost use Rattle.model.specs.CheckLaws.{UsageExactly, UncoercibleExactly, FindsTheBroken, SilenceIsCoercion, TwinsFindAlike};
+ghost use Rattle.model.specs.CheckLaws.{UsageExactly, UncoercibleExactly, FindsTheBroken, SilenceIsCoercion, SilenceLeavesTheRule, SilenceHoldsNoVariable, TwinsFindAlike};
 
 // Each worked case leaves what it says, computed from the definitions.
 pub fn worked_cases_stand()
@@ -191,4 +191,14 @@ pub fn twins_find_alike_stands()
 // In each worked case the literal check finds what it says, computed from the definition.
 pub fn checked_cases_stand()
     ensures { CheckedCases }
+{}
+
+// Where the literal check is silent, coercion accepts, or the rule alone refuses.
+pub fn silence_leaves_the_rule_stands()
+    ensures { SilenceLeavesTheRule }
+{}
+
+// Where no variable is declared, the literal check is silent only about values without variables.
+pub fn silence_holds_no_variable_stands()
+    ensures { SilenceHoldsNoVariable }
 {}
