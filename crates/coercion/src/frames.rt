@@ -12,6 +12,8 @@ pub enum Rest {
     Items(Span),
     // Members, each with its name.
     Members(Span),
+    // Of an input object: the members that are not looked at yet, and the indices of the fields.
+    Fields { members: Span, fields: Span },
 }
 
 // What is in a record, and how it is taken.
@@ -19,7 +21,7 @@ pub enum Rest {
 pub struct Inside {
     // Of a list or an object, what is still to come.
     pub rest: Option<Rest>,
-    // The type of that; inside a custom scalar, where everything is kept as it is, there is none.
+    // The type of that. Inside a custom scalar, where everything is kept as it is, there is none; a field has its own.
     pub shape: Option<Shape>,
     // The custom scalar that the record is a value of.
     pub scalar: Option<usize>,
@@ -33,6 +35,10 @@ pub struct Frame {
     pub start: usize,
     // The cursor of the record's raw value.
     pub at: usize,
+    // The index of the innermost input field that the value is in.
+    pub field: Option<usize>,
+    // Whether the value is in a default of the schema.
+    pub in_default: bool,
 }
 
 // The open records, the innermost last.

@@ -1,17 +1,19 @@
 // The walk of a raw value at its type.
-ghost use Rattle.std.specs.Prelude.{◌≡◌, ◌+◌, ◌^◌, ◌<◌, ◌≤◌, length, IfSome, OnOk};
+ghost use Rattle.std.specs.Prelude.{◌≡◌, ◌+◌, ◌^◌, ◌<◌, ◌≤◌, length, IfOk, IfSome, OnOk};
 ghost use Rattle.record.specs.Held.{size, Kept};
 ghost use Rattle.coercion.specs.Frames.{Rooted, Stacked, left};
 
 use crate::fault::{Spot, ValueFault};
 use crate::frames::{Frame, Frames, Inside, Rest};
 use crate::rule::ScalarRule;
+use lookup::{Lookup, Table};
 use record::body::Body;
 use record::working::Working;
-use schema::definition::Schema;
+use schema::definition::{Field, Schema};
 use schema::scalars;
 use schema::types::{Base, Shape, Type};
-use source::raw::{Kind, Source};
+use source::raw::{Kind, Source, Span};
+use source::value::Literal;
 use text::decimal;
 use text::language::Language;
 
@@ -20,10 +22,12 @@ use text::language::Language;
 pub struct Walk<'w, 's, S, R> {
     pub source: &'w S,
     pub schema: &'w Schema<'s>,
+    // The defaults of the schema.
+    pub defaults: &'w Literal<'w, 's>,
     pub rule: &'w R,
     // The index of the variable whose value is walked.
     pub variable: usize,
-    // Whether faults are told at the places of the source; otherwise at 0.
+    // Whether faults are told at the places of the source; in a default at 0.
     pub placed: bool,
 }
 
@@ -65,10 +69,26 @@ struct Step<'s> {
     at: usize,
     // Its type, unless it is kept as it is.
     shape: Option<Shape>,
+    // The index of the innermost input field that it is in.
+    field: Option<usize>,
+    // Whether it is in a default of the schema.
+    in_default: bool,
 }
 
-impl<'w, S: Source, R: ScalarRule> Walk<'w, '_, S, R> {
-    fn spot(&self, at: usize) -> Spot {
+impl<'w, 's, S: Source, R: ScalarRule> Walk<'w, 's, S, R> {
+    // The walk of the defaults that the walk comes to.
+    fn of_defaults(&self) -> Walk<'w, 's, Literal<'w, 's>, R> {
+        Walk {
+            source: self.defaults,
+            schema: self.schema,
+            defaults: self.defaults,
+            rule: self.rule,
+            variable: self.variable,
+            placed: false,
+        }
+    }
+
+    fn spot(&self, at: usize, field: Option<usize>) -> Spot {
         let place = if self.placed {
             self.source.place(at)
         } else {
@@ -77,7 +97,7 @@ impl<'w, S: Source, R: ScalarRule> Walk<'w, '_, S, R> {
         Spot {
             place,
             variable: Some(self.variable),
-            field: None,
+            field,
         }
     }
 
@@ -97,7 +117,17 @@ impl<'w, S: Source, R: ScalarRule> Walk<'w, '_, S, R> {
         fits.then_some(Body::Decimal { scale, digits })
     }
 
-    // The body of the record of a value at a built-in scalar, which may not take it.
+    // A value of an enum: in JSON a string, in a literal a name.
+    fn enum_value(&self, at: usize, kind: Kind, index: usize) -> Option<Body<'w>> {
+        let text = self.source.text(at);
+        let written = match S::FORM {
+            Language::Json => Kind::String,
+            Language::Graphql => Kind::Enum,
+        };
+        (kind == written && self.schema.has_value(index, text)).then_some(Body::String(text))
+    }
+
+    // The body of the record of a value at a built-in scalar or an enum, which may not take it.
     fn scalar(&self, at: usize, kind: Kind, base: Base) -> Option<Body<'w>> {
         let source = self.source;
         match (base, kind) {
@@ -109,6 +139,7 @@ impl<'w, S: Source, R: ScalarRule> Walk<'w, '_, S, R> {
             (Base::String | Base::Id, Kind::String) => Some(Body::String(source.text(at))),
             (Base::Boolean, Kind::Boolean) => Some(Body::Boolean(source.boolean(at))),
             (Base::Id, Kind::Whole) => Some(Body::Whole(source.text(at))),
+            (Base::Enum(index), _) => self.enum_value(at, kind, index),
             _ => None,
         }
     }
@@ -140,41 +171,88 @@ impl<'w, S: Source, R: ScalarRule> Walk<'w, '_, S, R> {
         Opening { body, inside }
     }
 
+    // The first member of an object whose name no field has.
+    fn undeclared(&self, object: usize, fields: &[Field<'_>]) -> Option<usize> {
+        let mut expected = 0;
+        for at in self.source.values(object) {
+            let name = self.source.name(at);
+            // Most often the members come in the order of the fields.
+            if fields.get(expected).is_some_and(|field| field.name == name) {
+                expected += 1;
+            } else if Table::new(fields).find(name).is_none() {
+                return Some(at);
+            }
+        }
+        None
+    }
+
+    // The record of an object at an input object's type.
+    fn object(&self, step: Step<'_>, index: usize) -> Result<Opening<'w>, ValueFault> {
+        if let Some(at) = self.undeclared(step.at, self.schema.fields_of(index)) {
+            return Err(ValueFault::UnknownKey(self.spot(at, step.field)));
+        }
+        let rest = Rest::Fields {
+            members: self.source.inside(step.at),
+            fields: self.schema.inside(index),
+        };
+        let inside = Inside {
+            rest: Some(rest),
+            shape: None,
+            scalar: None,
+        };
+        Ok(Opening {
+            body: Body::Object,
+            inside,
+        })
+    }
+
+    // The record of a value that is not null, where no list is wanted.
+    fn named(&self, step: Step<'_>, kind: Kind, base: Base) -> Result<Opening<'w>, ValueFault> {
+        match base {
+            Base::Custom(index) => Ok(self.contents(step.at, kind, Some(index))),
+            Base::Input(index) if kind == Kind::Object => self.object(step, index),
+            _ => self
+                .scalar(step.at, kind, base)
+                .map(Opening::leaf)
+                .ok_or_else(|| ValueFault::WrongValue(self.spot(step.at, step.field))),
+        }
+    }
+
     // The record of a value at a type.
-    fn typed(&self, at: usize, kind: Kind, shape: Shape) -> Result<Opening<'w>, ValueFault> {
+    fn typed(&self, step: Step<'_>, kind: Kind, shape: Shape) -> Result<Opening<'w>, ValueFault> {
+        let Step { at, field, .. } = step;
         match (kind, shape.base) {
-            (Kind::Null, _) if shape.is_non_null() => Err(ValueFault::NullValue(self.spot(at))),
+            (Kind::Null, _) if shape.is_non_null() => {
+                Err(ValueFault::NullValue(self.spot(at, field)))
+            }
             (Kind::Null, _) => Ok(Opening::leaf(Body::Null)),
             (Kind::List, _) if shape.is_list() => {
                 let items = self.source.inside(at);
                 Ok(Opening::list(Rest::Items(items), shape.item()))
             }
             _ if shape.is_list() => Ok(Opening::list(Rest::Single(at), shape.item())),
-            (_, Base::Custom(index)) => Ok(self.contents(at, kind, Some(index))),
-            (_, base) => self
-                .scalar(at, kind, base)
-                .map(Opening::leaf)
-                .ok_or_else(|| ValueFault::WrongValue(self.spot(at))),
+            _ => self.named(step, kind, shape.base),
         }
     }
 
     // The tests that come before the record of a value is opened.
-    fn opening(&self, at: usize, shape: Option<Shape>) -> Result<Opening<'w>, ValueFault> {
+    fn opening(&self, step: Step<'_>) -> Result<Opening<'w>, ValueFault> {
+        let Step { at, field, .. } = step;
         let kind = self.source.kind(at);
         if kind == Kind::Variable {
-            return Err(ValueFault::VariableInValue(self.spot(at)));
+            return Err(ValueFault::VariableInValue(self.spot(at, field)));
         }
-        match shape {
-            Some(shape) => self.typed(at, kind, shape),
+        match step.shape {
+            Some(shape) => self.typed(step, kind, shape),
             None => Ok(self.contents(at, kind, None)),
         }
     }
 
     // Asks the rule about a record that is written, if it is the value of a custom scalar.
-    fn settle(&self, at: usize, scalar: Option<usize>, record: &[u8]) -> Result<(), ValueFault> {
+    fn settle(&self, scalar: Option<usize>, record: &[u8], spot: Spot) -> Result<(), ValueFault> {
         match scalar {
             Some(index) if !self.rule.accepts(self.schema.type_name(index), record) => {
-                Err(ValueFault::ScalarRefused(self.spot(at)))
+                Err(ValueFault::ScalarRefused(spot))
             }
             _ => Ok(()),
         }
@@ -192,23 +270,111 @@ impl<'w, S: Source, R: ScalarRule> Walk<'w, '_, S, R> {
         ensures kept { Kept out.old out.new }
         ensures opened { OnOk result ((out.old.used + 6 ≤ out.new.used) × (length frames.new.items ≤ length frames.old.items + 1) × Stacked out.new.used frames.new.items) }
     {
-        let at = step.at;
-        let Opening { body, inside } = self.opening(at, step.shape)?;
+        let Step {
+            name,
+            at,
+            field,
+            in_default,
+            ..
+        } = step;
+        let Opening { body, inside } = self.opening(step)?;
         if frames.is_full() {
-            return Err(ValueFault::TooDeep(self.spot(at)));
+            return Err(ValueFault::TooDeep(self.spot(at, field)));
         }
         let start = out
-            .begin(step.name, body)
-            .ok_or_else(|| ValueFault::NoSpace(self.spot(at)))?;
+            .begin(name, body)
+            .ok_or_else(|| ValueFault::NoSpace(self.spot(at, field)))?;
         if inside.rest.is_none() {
-            return self.settle(at, inside.scalar, &out.written()[start..]);
+            let spot = self.spot(at, field);
+            return self.settle(inside.scalar, &out.written()[start..], spot);
         }
-        frames.push(Frame { inside, start, at });
+        frames.push(Frame {
+            inside,
+            start,
+            at,
+            field,
+            in_default,
+        });
         Ok(())
     }
 
+    // The member with the name of an object, and the members after it that are not looked at yet.
+    fn member(&self, object: usize, members: Span, name: &[u8]) -> Option<(usize, Span)> {
+        match self.source.next(members) {
+            Some((at, rest)) if self.source.name(at) == name => Some((at, rest)),
+            _ => Some((self.source.member(object, name)?, members)),
+        }
+    }
+
+    // The value of a field, if it has one: the member or the default.
+    fn field(
+        &self,
+        frame: Frame,
+        members: Span,
+        index: usize,
+    ) -> Result<Option<(Step<'w>, Span)>, ValueFault> {
+        let Some(field) = self.schema.field(index) else {
+            return Ok(None);
+        };
+        let (at, in_default, members) = if let Some((at, rest)) = self.member(
+            frame.at, members, field.name,
+        ) {
+            (at, frame.in_default, rest)
+        } else if let Some(at) = field.default {
+            (at, true, members)
+        } else if field.ty.shape.is_non_null() {
+            let spot = self.spot(frame.at, Some(index));
+            return Err(ValueFault::MissingField(spot));
+        } else {
+            return Ok(None);
+        };
+        let step = Step {
+            name: Some(field.name),
+            at,
+            shape: Some(field.ty.shape),
+            field: Some(index),
+            in_default,
+        };
+        Ok(Some((step, members)))
+    }
+
+    // The first of the fields that has a value, and the record without what comes before it.
+    fn next_field(
+        &self,
+        frame: Frame,
+        members: Span,
+        fields: Span,
+    ) -> Result<Option<(Step<'w>, Frame)>, ValueFault>
+        ensures { IfOk result (λ o. IfSome o (λ p. p.1.start ≡ frame.start)) }
+    {
+        for index in fields.from..fields.to {
+            if let Some((step, members)) = self.field(frame, members, index)? {
+                let fields = Span {
+                    from: index + 1,
+                    to: fields.to,
+                };
+                let inside = Inside {
+                    rest: Some(Rest::Fields { members, fields }),
+                    ..frame.inside
+                };
+                return Ok(Some((step, Frame { inside, ..frame })));
+            }
+        }
+        Ok(None)
+    }
+
     // The first of the values that are still to come in a record, and the record without it.
-    fn next(&self, frame: Frame) -> Option<(Step<'w>, Frame)>
+    fn next(&self, frame: Frame) -> Result<Option<(Step<'w>, Frame)>, ValueFault>
+        ensures { IfOk result (λ o. IfSome o (λ p. p.1.start ≡ frame.start)) }
+    {
+        match frame.inside.rest {
+            Some(Rest::Fields { members, fields }) => self.next_field(frame, members, fields),
+            _ => Ok(self.next_value(frame)),
+        }
+    }
+
+    // The same of a record that is no input object.
+    fn next_value(&self, frame: Frame) -> Option<(Step<'w>, Frame)>
         ensures { IfSome result (λ p. p.1.start ≡ frame.start) }
     {
         let source = self.source;
@@ -218,17 +384,23 @@ impl<'w, S: Source, R: ScalarRule> Walk<'w, '_, S, R> {
                 let (at, span) = source.next(span)?;
                 (None, at, Some(Rest::Items(span)))
             }
-            Rest::Members(span) => {
+            Rest::Members(span) | Rest::Fields { members: span, .. } => {
                 let (at, span) = source.next(span)?;
                 (Some(source.name(at)), at, Some(Rest::Members(span)))
             }
         };
-        let shape = frame.inside.shape;
+        let step = Step {
+            name,
+            at,
+            shape: frame.inside.shape,
+            field: frame.field,
+            in_default: frame.in_default,
+        };
         let inside = Inside {
             rest,
             ..frame.inside
         };
-        Some((Step { name, at, shape }, Frame { inside, ..frame }))
+        Some((step, Frame { inside, ..frame }))
     }
 
     // Goes on in a record that was the innermost open one: closes it, or opens the next one in it.
@@ -246,14 +418,19 @@ impl<'w, S: Source, R: ScalarRule> Walk<'w, '_, S, R> {
         ensures falls { OnOk result (left out.new frames.new.items ≤ left out.old frames.old.items) }
         ensures stacked { OnOk result (Stacked out.new.used frames.new.items) }
     {
-        match self.next(frame) {
+        match self.next(frame)? {
             None => {
                 out.finish(frame.start);
-                self.settle(frame.at, frame.inside.scalar, &out.written()[frame.start..])
+                let spot = self.spot(frame.at, frame.field);
+                self.settle(frame.inside.scalar, &out.written()[frame.start..], spot)
             }
             Some((step, frame)) => {
                 frames.push(frame);
-                self.begin(step, out, frames)
+                if step.in_default {
+                    self.of_defaults().begin(step, out, frames)
+                } else {
+                    self.begin(step, out, frames)
+                }
             }
         }
     }
@@ -277,10 +454,17 @@ impl<'w, S: Source, R: ScalarRule> Walk<'w, '_, S, R> {
             name: Some(name),
             at,
             shape: Some(ty.shape),
+            field: None,
+            in_default: false,
         };
         self.begin(step, out, frames)?;
+        let defaults = self.of_defaults();
         while let Some(frame) = frames.pop() {
-            self.turn(frame, out, frames)?;
+            if frame.in_default {
+                defaults.turn(frame, out, frames)?;
+            } else {
+                self.turn(frame, out, frames)?;
+            }
         }
         Ok(())
     }

@@ -17,6 +17,7 @@ use record::working::Working;
 use schema::definition::Schema;
 use schema::operation::{Operation, Variable};
 use source::raw::{Kind, Source};
+use source::value::Literal;
 use std::alloc::Global;
 
 // The cursor of the object that holds the variables' values.
@@ -47,6 +48,7 @@ fn replace(to: &mut [u8], from: &[u8])
 #[derive_where(Clone, Copy)]
 struct Request<'w, 's, 'o, S, R> {
     schema: &'w Schema<'s>,
+    defaults: &'w Literal<'w, 's>,
     operation: &'w Operation<'o>,
     rule: &'w R,
     source: &'w S,
@@ -65,6 +67,7 @@ impl<'s, S: Source, R: ScalarRule> Request<'_, 's, '_, S, R> {
         Walk {
             source,
             schema: self.schema,
+            defaults: self.defaults,
             rule: self.rule,
             variable,
             placed,
@@ -187,8 +190,10 @@ impl<'a, 's, 'o, R: ScalarRule> Sheet<'a, 's, 'o, R> {
     pub fn load<S: Source>(&mut self, source: &S) -> Result<usize, RequestFault>
         ensures { Loaded self.old self.new result }
     {
+        let defaults = self.schema.literal(0);
         let request = Request {
             schema: self.schema,
+            defaults: &defaults,
             operation: self.operation,
             rule: &self.rule,
             source,
