@@ -190,9 +190,10 @@ impl<'a, 's, 'o, R: ScalarRule> Sheet<'a, 's, 'o, R> {
     pub fn load<S: Source>(&mut self, source: &S) -> Result<usize, RequestFault>
         ensures { Loaded self.old self.new result }
     {
-        let defaults = self.schema.literal(0);
+        let schema = self.schema;
+        let defaults = schema.literal(0);
         let request = Request {
-            schema: self.schema,
+            schema,
             defaults: &defaults,
             operation: self.operation,
             rule: &self.rule,
