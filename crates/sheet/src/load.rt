@@ -48,7 +48,6 @@ fn replace(to: &mut [u8], from: &[u8])
 #[derive_where(Clone, Copy)]
 struct Request<'w, 's, 'o, S, R> {
     schema: &'w Schema<'s>,
-    defaults: &'w Literal<'w, 's>,
     operation: &'w Operation<'o>,
     rule: &'w R,
     source: &'w S,
@@ -61,13 +60,14 @@ impl<'s, S: Source, R: ScalarRule> Request<'_, 's, '_, S, R> {
     fn walk_in<'v, T: Source>(
         &'v self,
         source: &'v T,
+        defaults: &'v Literal<'v, 's>,
         variable: usize,
         placed: bool,
     ) -> Walk<'v, 's, T, R> {
         Walk {
             source,
             schema: self.schema,
-            defaults: self.defaults,
+            defaults,
             rule: self.rule,
             variable,
             placed,
@@ -86,12 +86,13 @@ impl<'s, S: Source, R: ScalarRule> Request<'_, 's, '_, S, R> {
         ensures { Kept out.old out.new }
     {
         let start = out.written().len();
+        let defaults = self.schema.literal(0);
         if let Some(at) = self.source.member(self.object, variable.name) {
-            let walk = self.walk_in(self.source, index, true);
+            let walk = self.walk_in(self.source, &defaults, index, true);
             walk.walk(variable.name, at, &variable.ty, out, frames)?;
         } else if let Some(at) = variable.default {
             let literal = self.operation.literal(at);
-            let walk = self.walk_in(&literal, index, false);
+            let walk = self.walk_in(&literal, &defaults, index, false);
             walk.walk(variable.name, literal.root(), &variable.ty, out, frames)?;
         } else if variable.ty.shape.is_non_null() {
             return Err(RequestFault::MissingVariable {
@@ -190,11 +191,8 @@ impl<'a, 's, 'o, R: ScalarRule> Sheet<'a, 's, 'o, R> {
     pub fn load<S: Source>(&mut self, source: &S) -> Result<usize, RequestFault>
         ensures { Loaded self.old self.new result }
     {
-        let schema = self.schema;
-        let defaults = schema.literal(0);
         let request = Request {
-            schema,
-            defaults: &defaults,
+            schema: self.schema,
             operation: self.operation,
             rule: &self.rule,
             source,
