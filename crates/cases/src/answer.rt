@@ -32,21 +32,24 @@ fn refusal(
     format!(in heap; "refused {number} {layer} {place}")
 }
 
-// A refused request, with the name of the variable if one is told.
+// A refused request, with the names of the variable and the field if they are told.
 fn request_refusal(
     heap: Global,
+    schema: &Schema<'_>,
     operation: &Operation<'_>,
     fault: RequestFault,
 ) -> Result<String, AllocError> {
     let spot = fault.spot();
-    let said = refusal(heap, fault.number(), fault.layer(), spot.place)?;
-    match spot.variable.and_then(|index| operation.variable(index)) {
-        Some(variable) => {
-            let name = characters(heap, variable.name)?;
-            format!(in heap; "{said} variable {name}")
-        }
-        None => Ok(said),
+    let mut said = refusal(heap, fault.number(), fault.layer(), spot.place)?;
+    if let Some(variable) = spot.variable.and_then(|index| operation.variable(index)) {
+        let name = characters(heap, variable.name)?;
+        said = format!(in heap; "{said} variable {name}")?;
     }
+    if let Some(field) = spot.field.and_then(|index| schema.field(index)) {
+        let name = characters(heap, field.name)?;
+        said = format!(in heap; "{said} field {name}")?;
+    }
+    Ok(said)
 }
 
 // The sheet of a request, in hexadecimal.
@@ -57,7 +60,15 @@ fn load(
     case: &Case,
 ) -> Result<String, RequestFault> {
     let mut sheet = Sheet::new(heap, schema, operation, AcceptAll, case.capacity)?;
-    sheet.load_json(heap, case.variables.as_slice())?;
+    let text = case.variables.as_slice();
+    match case.reading {
+        Reading::Json => sheet.load_json(heap, text)?,
+        Reading::Literal => {
+            let read: LiteralText<'_> = read(heap, text)?;
+            sheet.load(&read.value())?
+        }
+        Reading::Sheet => sheet.load(&read_stored(heap, text)?)?,
+    };
     Ok(hex::encode(heap, sheet.bytes())?)
 }
 
@@ -68,7 +79,7 @@ fn request(heap: Global, case: &Case) -> Result<Result<String, AllocError>, Make
     Ok(match load(heap, &schema, &operation, case) {
         Ok(digits) if digits.is_empty() => String::from_str(heap, "ok"),
         Ok(digits) => format!(in heap; "ok {digits}"),
-        Err(fault) => request_refusal(heap, &operation, fault),
+        Err(fault) => request_refusal(heap, &schema, &operation, fault),
     })
 }
 

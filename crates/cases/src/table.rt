@@ -5,12 +5,13 @@ use hex::FromHex;
 use std::alloc::{AllocError, AllocFailed, Global};
 use std::str;
 
-// A request: its schema, its operation and its variables are made, and loaded into a sheet of that capacity.
+// A request: its schema and its operation are made, and its variables, read so, are loaded into a sheet of that capacity.
 #[derive(Drop)]
 pub struct Case {
     pub schema: Vec<u8>,
     pub operation: Vec<u8>,
     pub capacity: usize,
+    pub reading: Reading,
     pub variables: Vec<u8>,
 }
 
@@ -91,23 +92,28 @@ fn add_byte<'t>(first: u8, after: &'t [u8], out: &mut Vec<u8>) -> Result<&'t [u8
     Ok(rest)
 }
 
-// Adds the bytes that a text without repetitions writes.
-fn add(text: &[u8], out: &mut Vec<u8>) -> Result<(), Misread> {
+// Adds the bytes that a repeated text writes in a turn, which is the number that `\i` stands for.
+fn add(heap: Global, text: &[u8], turn: usize, out: &mut Vec<u8>) -> Result<(), Misread> {
     let mut rest = text;
     while let [first, after @ ..] = rest {
-        rest = add_byte(*first, after, out)?;
+        rest = if let [b'\\', b'i', after @ ..] = rest {
+            out.extend_from_slice(format!(in heap; "{turn}")?.as_bytes())?;
+            after
+        } else {
+            add_byte(*first, after, out)?
+        };
     }
     Ok(())
 }
 
 // Adds what `N^text^` writes that begins a text, and tells what comes after it.
-fn repeat<'t>(text: &'t [u8], out: &mut Vec<u8>) -> Result<&'t [u8], Misread>
+fn repeat<'t>(heap: Global, text: &'t [u8], out: &mut Vec<u8>) -> Result<&'t [u8], Misread>
     ensures { IfOk result (λ rest. length rest.now < length text.now) }
 {
     let (count, rest) = cut(text, b'^')?;
     let (repeated, rest) = cut(rest, b'^')?;
-    for _ in 0..number(count).ok_or(Misread::Wrong)? {
-        add(repeated, out)?;
+    for turn in 0..number(count).ok_or(Misread::Wrong)? {
+        add(heap, repeated, turn, out)?;
     }
     Ok(rest)
 }
@@ -118,7 +124,7 @@ fn field(heap: Global, text: &[u8]) -> Result<Vec<u8>, Misread> {
     let mut rest = text;
     while let [first, after @ ..] = rest {
         rest = if *first == b'^' {
-            repeat(after, &mut out)?
+            repeat(heap, after, &mut out)?
         } else {
             add_byte(*first, after, &mut out)?
         };
@@ -126,29 +132,29 @@ fn field(heap: Global, text: &[u8]) -> Result<Vec<u8>, Misread> {
     Ok(out)
 }
 
+// What a word says that a text is read as.
+fn read_as(word: &[u8]) -> Result<Reading, Misread> {
+    match word {
+        b"json" => Ok(Reading::Json),
+        b"literal" => Ok(Reading::Literal),
+        b"sheet" => Ok(Reading::Sheet),
+        _ => Err(Misread::Wrong),
+    }
+}
+
 // The request that the fields after a title write.
 fn request(heap: Global, fields: &[u8]) -> Result<Case, Misread> {
     let (schema, rest) = cut(fields, b'\t')?;
     let (operation, rest) = cut(rest, b'\t')?;
-    let (capacity, variables) = cut(rest, b'\t')?;
-    let capacity = number(capacity).ok_or(Misread::Wrong)?;
+    let (capacity, rest) = cut(rest, b'\t')?;
+    let (word, variables) = cut(rest, b'\t').unwrap_or((b"json", rest));
     Ok(Case {
         schema: field(heap, schema)?,
         operation: field(heap, operation)?,
-        capacity,
+        capacity: number(capacity).ok_or(Misread::Wrong)?,
+        reading: read_as(word)?,
         variables: field(heap, variables)?,
     })
-}
-
-// The text that the two fields after a title write.
-fn text(heap: Global, reading: &[u8], text: &[u8]) -> Result<Asked, Misread> {
-    let reading = match reading {
-        b"json" => Reading::Json,
-        b"literal" => Reading::Literal,
-        b"sheet" => Reading::Sheet,
-        _ => return Err(Misread::Wrong),
-    };
-    Ok(Asked::Text(reading, field(heap, text)?))
 }
 
 // The case that a line writes.
@@ -158,7 +164,7 @@ pub(crate) fn read(heap: Global, line: &[u8]) -> Result<Line, Misread> {
     let asked = if rest.contains(&b'\t') {
         Asked::Request(request(heap, fields)?)
     } else {
-        text(heap, first, rest)?
+        Asked::Text(read_as(first)?, field(heap, rest)?)
     };
     let title = title.to_vec(heap)?;
     Ok(Line { title, asked })
