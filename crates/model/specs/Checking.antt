@@ -88,10 +88,10 @@ abbrev pub inner : Ty → Name
 inner (named b n) = n
 inner (list_of b t) = inner t
 
--- what is wrong with a scalar at a named type (sections 3.5 and 3.9)
 abbrev pub kept_unless : Bool → FindingKind → Option FindingKind
 kept_unless b k = cond b none (some k)
 
+-- what is wrong with a scalar at a named type (sections 3.5 and 3.9)
 abbrev pub wrong_scalar : Def → Scalar → Option FindingKind
 wrong_scalar int_d (whole s) = kept_unless (in_int s) int_coercion_error
 wrong_scalar float_d (whole s) = kept_unless (nat_lt (magnitude s) float_bound) float_coercion_error
@@ -113,11 +113,11 @@ abbrev pub check_usage : Bool → ℕ → ℕ → Ty → Option Variable → Lis
 check_usage d lone at t none = found undefined_variable at
 check_usage d lone at t (some v) = cond (usage_allowed v.field d t) [] (found disallowed_variable_usage lone)
 
--- the undeclared variables anywhere in the contents of a custom scalar
 abbrev pub if_undeclared : ℕ → Option Variable → List Finding
 if_undeclared at none = found undefined_variable at
 if_undeclared at (some v) = []
 
+-- the undeclared variables anywhere in the contents of a custom scalar, in the order of the text
 abbrev mutual
   pub undeclared_in : List Variable → Raw → List Finding
   undeclared_in vs (null at) = []
@@ -134,11 +134,12 @@ abbrev mutual
   undeclared_in_mems vs end = []
   undeclared_in_mems vs (mem n x ms) = undeclared_in vs x ++ undeclared_in_mems vs ms
 
--- a list: its items at a list type, its contents at a custom scalar
+-- a list at a named type: only a custom scalar takes one
 abbrev pub list_at_name : ℕ → List Finding → Def → List Finding
 list_at_name at contents custom_d = contents
 list_at_name at contents D = found unsupported_value_type at
 
+-- at a list type its items count
 abbrev pub check_list : Schema → ℕ → List Finding → (Ty → List Finding) → Ty → List Finding
 check_list S at contents items (named b n) = list_at_name at contents (find S n)
 check_list S at contents items (list_of b t) = items t
@@ -164,6 +165,7 @@ abbrev pub check_fields : ℕ → Mems → (Field → List Finding) → List Fie
 check_fields at ms g [] = []
 check_fields at ms g (f ∷ fs) = check_required at f (member ms f.name) ++ (g f ++ check_fields at ms g fs)
 
+-- an object, also as a list of one: only an input object or a custom scalar takes it
 abbrev pub check_object : ℕ → Mems → List Finding → (Field → List Finding) → Def → List Finding
 check_object at ms contents g (input_d fs) = check_names (first_undeclared (field_names fs) ms) ++ check_fields at ms g fs
 check_object at ms contents g custom_d = contents
