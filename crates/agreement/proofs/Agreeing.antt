@@ -1,29 +1,43 @@
 -- What says the same but for places has the same outcome, and what stands in a sheet's bytes is what its record shows.
 use Rattle.std.proofs.Common.{◌≡◌, ℕ, List, length, sym, refl, subst, ◌∙◌}
-use Rattle.model.specs.Values.{Form, Raw, Raws, Mems, mem, Schema, Variable, Rec, Recs, Rmems, r_object, r_mem}
+use Rattle.model.specs.Values.{Raw, Raws, Mems, mem, Rec, Recs, Rmems, r_object, r_mem}
 use Rattle.model.specs.Records.{encode_mems}
-use Rattle.model.specs.Coercion.{Rule}
 use Rattle.model.specs.Back.{Shows, ShowsAll, ShowsMems, s_null, s_plain, s_list, s_object, s_nil, s_cons, s_end, s_mem}
-use Rattle.model.specs.Calls.{State, load, answer}
-use Rattle.model.specs.Twins.{Twin, TwinAll, TwinMems, w_null, w_scalar, w_variable, w_list, w_object, w_nil, w_cons, w_end, w_mem, SameOut, w_load, slots_given}
+use Rattle.model.specs.Calls.{Call, load}
+use Rattle.model.specs.Twins.{Twin, TwinAll, TwinMems, w_null, w_scalar, w_variable, w_list, w_object, w_nil, w_cons, w_end, w_mem, TwinCalls, w_load, w_supply, w_withdraw, w_none, w_next}
 use Rattle.model.proofs.TwinLaws.{shown-are_twins}
 use Rattle.model.proofs.WalkTwins.{places_do_not_matter}
+use Rattle.text.specs.declared.language.Language.TheVariants.{Json, Graphql}
+use Rattle.reader.proofs.RdReads.{writes_once}
 use Rattle.stored.specs.Cursors.{shown, Held}
 use Rattle.stored.specs.Laws.{Within}
 use Rattle.stored.specs.OneTree.{one_held}
 use Rattle.stored.proofs.CuOne.{shown-shows, root_shows, root_held, sheet_within}
+use Rattle.agreement.specs.Inputs.{Input, json_text, literal_text, sheet_value, sheet_bytes, form_of, Says, Agree, Request, CallsOf, c_load, c_supply, c_withdraw, c_none, c_next, AgreeAll, a_none, a_load, a_supply, a_withdraw}
 use Rattle.agreement.specs.Laws.{SourcesAgree, ShownAgree, EncodedStands}
 
-loads_same : (p q : Form) (x y : Raw) → Twin x y → p ≡ q → (k : ℕ) (S : Schema) (R : Rule) (cap : ℕ) (vs : List Variable) (st : State)
-    → SameOut (slots_given (answer k S R cap vs st (load p x))) (slots_given (answer k S R cap vs st (load q y)))
-loads_same p q x y w e k S R cap vs st = places_do_not_matter.3 k S R cap vs st (load p x) (load q y) (w_load e w)
+one_said : (a : Input) (x y : Raw) → Says a x → Says a y → x ≡ y
+one_said (json_text text) x y s u = writes_once Json text x y s u
+one_said (literal_text text) x y s u = writes_once Graphql text x y s u
+one_said (sheet_value bytes at) x y s u = one_held bytes at x y s u
+
+agree_twins : (a b : Input) → Agree a b → (x y : Raw) → Says a x → Says b y → Twin x y
+agree_twins a b g x y s u = subst (λ z. Twin z y) (one_said a g.value x g.says s) (subst (Twin g.value) (one_said b g.other y g.says_other u) g.twins)
+
+-- requests that agree come to calls that are twins
+asked_twins : {qs rs : List Request} → AgreeAll qs rs → {cs es : List Call} → CallsOf qs cs → CallsOf rs es → TwinCalls cs es
+asked_twins a_none c_none c_none = w_none
+asked_twins (a_load {a = a} {b = b} g gs) (c_next (c_load {x = x} s) ss) (c_next (c_load {x = y} u) us) = w_next (w_load g.forms (agree_twins a b g x y s u)) (asked_twins gs ss us)
+asked_twins (a_supply {a = a} {b = b} g gs) (c_next (c_supply {x = x} s) ss) (c_next (c_supply {x = y} u) us) = w_next (w_supply refl g.forms (agree_twins a b g x y s u)) (asked_twins gs ss us)
+asked_twins (a_withdraw gs) (c_next c_withdraw ss) (c_next c_withdraw us) = w_next (w_withdraw refl) (asked_twins gs ss us)
 
 pub sources_agree_lem : SourcesAgree
 sources_agree_lem = record {
+  said = one_said;
   coerced = λ a b x y s u w k S R p h t. places_do_not_matter.0 k S R p h x y w t;
   walked = λ a b x y s u w k S R cap p h t depth used lead. places_do_not_matter.2 k S R cap p h x y w t depth used lead;
-  loaded = λ a b x y s u w e k S R cap vs st. loads_same _ _ x y w e k S R cap vs st;
-  called = λ qs rs cs es s u w k S R cap vs. places_do_not_matter.4 k S R cap vs cs es w;
+  loaded = λ a b g x y s u k S R cap vs st. places_do_not_matter.3 k S R cap vs st (load (form_of a) x) (load (form_of b) y) (w_load g.forms (agree_twins a b g x y s u));
+  asked = λ qs rs g cs es s u k S R cap vs. places_do_not_matter.4 k S R cap vs cs es (asked_twins g s u);
 }
 
 -- what shows a record still does with other places
@@ -53,11 +67,22 @@ root_is bytes ms y w h = one_held bytes (length bytes) (shown 0 0 (r_object ms))
 shown_there : (bytes : List ℕ) (ms : Rmems) (y : Raw) → Within bytes ms → Held bytes (length bytes) y → Shows (r_object ms) y
 shown_there bytes ms y w h = subst (Shows (r_object ms)) (root_is bytes ms y w h) (root_shows ms)
 
+-- the tree at the root of a sheet's bytes
+root : (bytes : List ℕ) (ms : Rmems) → Within bytes ms → Says (sheet_bytes bytes) (shown 0 0 (r_object ms))
+root bytes ms w = root_held bytes ms w.short w.decodes.bytes_are w.within
+
 pub shown_agree_lem : ShownAgree
 shown_agree_lem = record {
   twins = λ bytes at x y h. ((λ s. shown-are_twins.3 h.value x y s (held_shows bytes at y h)), (λ w. shows_too w (held_shows bytes at y h)));
-  shown = shown_there;
-  loaded = λ text bytes ms x y s w h z k S R cap vs st. loads_same _ _ x y (shown-are_twins.3 (r_object ms) x y z (shown_there bytes ms y w h)) refl k S R cap vs st;
+  agree = λ text bytes ms x s w h. record {
+    forms = refl;
+    value = x;
+    other = shown 0 0 (r_object ms);
+    says = s;
+    says_other = root bytes ms w;
+    twins = shown-are_twins.3 (r_object ms) x (shown 0 0 (r_object ms)) h (root_shows ms);
+  };
+  shown = λ text bytes ms x s w g. shows_too (agree_twins (json_text text) (sheet_bytes bytes) g x (shown 0 0 (r_object ms)) s (root bytes ms w)) (root_shows ms);
 }
 
 pub encoded_stands_lem : EncodedStands

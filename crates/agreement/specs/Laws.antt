@@ -10,33 +10,31 @@ use Rattle.model.specs.Back.{Shows}
 use Rattle.model.specs.Limits.{RecLimits, SchemaLimits, VariableLimits}
 use Rattle.model.specs.Calls.{Sheet, State, Call, load, bytes_of, answer, run}
 use Rattle.model.specs.Laws.{AllSourced}
-use Rattle.model.specs.Twins.{Twin, SameOut, TwinCalls, slots_given, slots_kept}
+use Rattle.model.specs.Twins.{Twin, SameOut, slots_given, slots_kept}
 use Rattle.stored.specs.Cursors.{Held}
 use Rattle.stored.specs.Laws.{Within}
-use Rattle.agreement.specs.Inputs.{Input, json_text, sheet_bytes, form_of, Says, Request, CallsOf}
+use Rattle.agreement.specs.Inputs.{Input, json_text, sheet_bytes, form_of, Says, Agree, Request, CallsOf, AgreeAll}
 
--- inputs that say the same but for places have the same outcome but for the places of refusals:
--- coerced at a type and walked within the limits, in any one form; loaded, where their forms are the same; and over runs of calls
+-- an input says one value at most; inputs that say the same but for places have the same outcome but for the places of refusals:
+-- coerced at a type and walked within the limits, in any one form; loaded, where their forms are the same; and over runs of requests
 pub record SourcesAgree : Type 0 where
+  pub said : (a : Input) (x y : Raw) → Says a x → Says a y → x ≡ y
   pub coerced : (a b : Input) (x y : Raw) → Says a x → Says b y → Twin x y
       → (k : ℕ) (S : Schema) (R : Rule) (p : Form) (h : Here) (t : Ty) → SameOut (coerce_at k S R p h x t) (coerce_at k S R p h y t)
   pub walked : (a b : Input) (x y : Raw) → Says a x → Says b y → Twin x y
       → (k : ℕ) (S : Schema) (R : Rule) (cap : ℕ) (p : Form) (h : Here) (t : Ty) (depth used lead : ℕ)
       → SameOut (walk_at k S R cap p h x t depth used lead) (walk_at k S R cap p h y t depth used lead)
-  pub loaded : (a b : Input) (x y : Raw) → Says a x → Says b y → Twin x y → form_of a ≡ form_of b
-      → (k : ℕ) (S : Schema) (R : Rule) (cap : ℕ) (vs : List Variable) (st : State)
+  pub loaded : (a b : Input) → Agree a b → (x y : Raw) → Says a x → Says b y → (k : ℕ) (S : Schema) (R : Rule) (cap : ℕ) (vs : List Variable) (st : State)
       → SameOut (slots_given (answer k S R cap vs st (load (form_of a) x))) (slots_given (answer k S R cap vs st (load (form_of b) y)))
-  pub called : (qs rs : List Request) (cs es : List Call) → CallsOf qs cs → CallsOf rs es → TwinCalls cs es
+  pub asked : (qs rs : List Request) → AgreeAll qs rs → (cs es : List Call) → CallsOf qs cs → CallsOf rs es
       → (k : ℕ) (S : Schema) (R : Rule) (cap : ℕ) (vs : List Variable) → slots_kept (run k S R cap vs cs) ≡ slots_kept (run k S R cap vs es)
 
 -- what stands at a cursor of a sheet's bytes is the same, but for places, as exactly what its record shows;
--- so a JSON text that writes what a sheet's record shows leaves what the sheet's bytes leave
+-- so a JSON text agrees with a sheet's bytes exactly where it writes what the sheet's record shows
 pub record ShownAgree : Type 0 where
   pub twins : (bytes : List ℕ) (at : ℕ) (x y : Raw) (h : Held bytes at y) → (Shows h.value x → Twin x y) × (Twin x y → Shows h.value x)
-  pub shown : (bytes : List ℕ) (ms : Rmems) (y : Raw) → Within bytes ms → Says (sheet_bytes bytes) y → Shows (r_object ms) y
-  pub loaded : (text bytes : List ℕ) (ms : Rmems) (x y : Raw) → Says (json_text text) x → Within bytes ms → Says (sheet_bytes bytes) y → Shows (r_object ms) x
-      → (k : ℕ) (S : Schema) (R : Rule) (cap : ℕ) (vs : List Variable) (st : State)
-      → SameOut (slots_given (answer k S R cap vs st (load (form_of (json_text text)) x))) (slots_given (answer k S R cap vs st (load (form_of (sheet_bytes bytes)) y)))
+  pub agree : (text bytes : List ℕ) (ms : Rmems) (x : Raw) → Says (json_text text) x → Within bytes ms → Shows (r_object ms) x → Agree (json_text text) (sheet_bytes bytes)
+  pub shown : (text bytes : List ℕ) (ms : Rmems) (x : Raw) → Says (json_text text) x → Within bytes ms → Agree (json_text text) (sheet_bytes bytes) → Shows (r_object ms) x
 
 -- one tree stands at the root of what was encoded within the limits, and the record shows it
 pub record EncodedStands : Type 0 where

@@ -3,12 +3,13 @@
 
 ghost use Rattle.agreement.specs.Laws.{SourcesAgree, ShownAgree, EncodedStands, SheetsComeBack};
 
-// Inputs that say the same but for places have the same outcome in one form, whichever readers read them.
+// An input says one value at most, and those that say the same but for places have the same outcome in one form,
+// whichever readers read them.
 pub fn sources_agree()
     ensures { SourcesAgree }
 {}
 
-// A text says what a sheet's bytes say exactly where it writes what their record shows.
+// A JSON text agrees with a sheet's bytes exactly where it writes what their record shows.
 pub fn shown_agree()
     ensures { ShownAgree }
 {}

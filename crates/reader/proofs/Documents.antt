@@ -12,6 +12,7 @@ use Rattle.reader.proofs.RdSame.{same_all}
 use Rattle.reader.proofs.RdSound.{sound_all}
 use Rattle.reader.proofs.RdAgree.{agree_all, refuses_all}
 use Rattle.reader.proofs.RdLimits.{bounded_of, limits_of}
+use Rattle.reader.proofs.RdReads.{writes_read, writes_once}
 use Rattle.reader.proofs.Faults.{blames_map}
 
 one_fault : (language : Language) (text : List ℕ) (f g : Fault) → FirstFault language text f → FirstFault language text g → f ≡ g
@@ -29,6 +30,8 @@ one_reading_lem = record {
   outcome = λ language text distinct d o p r q. same_all (Sights language text) (one_sight language text) (sights_number language text) language distinct r q;
   fault = one_fault;
   clean = none_clean;
+  value = writes_once;
+  read = writes_read;
 }
 
 -- the value that was read is the one that the text writes

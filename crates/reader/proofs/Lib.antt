@@ -5,6 +5,7 @@ pub mod RdSound
 pub mod RdAgree
 pub mod RdDecimals
 pub mod RdLimits
+pub mod RdReads
 pub mod Leaves
 pub mod Beginning
 pub mod Tables

@@ -23,7 +23,7 @@ name_no_mark Json (a_mark k) n m h = let z : ◌≡◌ {A = ℕ} 0 1 = cc in abs
 name_no_mark Graphql (a_mark k) n m h = let z : ◌≡◌ {A = ℕ} 0 1 = cc in absurd (omega arith)
 name_no_mark language _ n m h = refl
 
-deep_enough : (distinct : Bool) (k : ℕ) (t : Raw) → Bounded distinct k t → k ≤ 32
+pub deep_enough : (distinct : Bool) (k : ℕ) (t : Raw) → Bounded distinct k t → k ≤ 32
 deep_enough distinct k (list at xs) h = h.0
 deep_enough distinct k (object at ms) h = h.0
 deep_enough distinct k _ h = h
@@ -101,12 +101,12 @@ module _ (N : ℕ → Sight → Type 0) (T : ℕ → ℕ → ℕ → Lexical →
     (sure : (i s e : ℕ) (x : Lexical) (v : Sight) → N i v → T i s e x → v ≡ sees s e x)
     (num : (i s e : ℕ) (k : NumberKind) (ds : List ℕ) → N i (sees s e (a_number k ds)) → Number ds k) where
   -- the turn where a closing mark stands
-  turn_closes : (language : Language) (close : Mark) (j s e : ℕ) (v : Sight) → N j v → T j s e (a_mark close) → turn language close j v ≡ done e
+  pub turn_closes : (language : Language) (close : Mark) (j s e : ℕ) (v : Sight) → N j v → T j s e (a_mark close) → turn language close j v ≡ done e
   turn_closes Json close j s e v n a = ap (turn Json close j) (sure j s e (a_mark close) v n a) ∙ cond-true (is_mark close (a_mark close)) (done e) (cond (is_mark comma (a_mark close)) (again e) (halts (BadText s))) (is_mark_lem close)
   turn_closes Graphql close j s e v n a = ap (turn Graphql close j) (sure j s e (a_mark close) v n a) ∙ cond-true (is_mark close (a_mark close)) (done e) (again j) (is_mark_lem close)
 
   -- and where another value follows
-  turn_goes : (language : Language) (close : Mark) (j k : ℕ) (v : Sight) → is_mark close (a_mark comma) ≡ false → N j v → Separated T language j k → Opens T close k → turn language close j v ≡ again k
+  pub turn_goes : (language : Language) (close : Mark) (j k : ℕ) (v : Sight) → is_mark close (a_mark comma) ≡ false → N j v → Separated T language j k → Opens T close k → turn language close j v ≡ again k
   turn_goes Json close j k v h n a o =
       ap (turn Json close j) (sure j a.0 k (a_mark comma) v n a.1)
       ∙ cond-false (is_mark close (a_mark comma)) (done k) (cond (is_mark comma (a_mark comma)) (again k) (halts (BadText a.0))) h
@@ -121,14 +121,14 @@ module _ (N : ℕ → Sight → Type 0) (T : ℕ → ℕ → ℕ → Lexical →
     value_opens (g_list {s = s} {e = e} a w) = record { s = s; e = e; x = a_mark open_bracket; token = a; other = refl }
     value_opens (g_object {s = s} {e = e} a w) = record { s = s; e = e; x = a_mark open_brace; token = a; other = refl }
 
-    items_open : {i j : ℕ} {xs : Raws} → SomeValues T language i j xs → Opens T close_bracket i
+    pub items_open : {i j : ℕ} {xs : Raws} → SomeValues T language i j xs → Opens T close_bracket i
     items_open (g_last v a) = value_opens v
     items_open (g_more v a r) = value_opens v
 
     member_opens : {i j : ℕ} {n : Name} {t : Raw} → Member T language i j n t → Opens T close_brace i
     member_opens (g_member {s = s} {e = e} {x = x} {n = n} a h c v) = record { s = s; e = e; x = x; token = a; other = name_no_mark language x n close_brace h }
 
-    members_open : {i j : ℕ} {ms : Mems} → SomeMembers T language i j ms → Opens T close_brace i
+    pub members_open : {i j : ℕ} {ms : Mems} → SomeMembers T language i j ms → Opens T close_brace i
     members_open (g_last_member v a) = member_opens v
     members_open (g_more_members v a r) = member_opens v
 

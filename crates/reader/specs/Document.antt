@@ -63,8 +63,11 @@ abbrev pub table_in : {X : Type 0} → (X → Table) → Result X Fault → Resu
 table_in f (Ok x) = Ok (f x)
 table_in f (Err e) = Err e
 
--- reading has one outcome, and each text one first fault at most, which no text has that writes a value within the limits
+-- reading has one outcome, and each text one first fault at most, which no text has that writes a value within the limits;
+-- that text writes no other value, and reading it comes to that value
 pub record OneReading : Type 0 where
   pub outcome : (language : Language) (text : List ℕ) (distinct : Bool) (d : ℕ) (o p : Out Raw) → ReadsAll (Sights language text) language distinct d o → ReadsAll (Sights language text) language distinct d p → o ≡ p
   pub fault : (language : Language) (text : List ℕ) (f g : Fault) → FirstFault language text f → FirstFault language text g → f ≡ g
   pub clean : (language : Language) (text : List ℕ) (t : Raw) (f : Fault) → Writes language text t → FirstFault language text f → ⊥
+  pub value : (language : Language) (text : List ℕ) (t u : Raw) → Writes language text t → Writes language text u → t ≡ u
+  pub read : (language : Language) (text : List ℕ) (t : Raw) → Writes language text t → (e : ℕ) × ReadsAll (Sights language text) language true 33 (got e t)

@@ -71,7 +71,7 @@ pub fn read<W: Written>(heap: Global, text: &[u8]) -> Result<Parsed<'_, W>, Faul
     })
 }
 
-// Reading has one outcome, and each text one first fault at most.
+// Reading has one outcome. A text writes one value at most, which is then what reading comes to, and else has one first fault at most.
 pub fn one_reading()
     ensures { OneReading }
 {}

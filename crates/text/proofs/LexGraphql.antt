@@ -76,11 +76,11 @@ number_point : NumberFirst 46 → ⊥
 number_point p = grind (arith, p)
 
 -- a token by its first byte
-by_nil : {x : Lexical} {r : List ℕ} → GraphqlToken [] x r → (the_end ≡ x) × ([] ≡ r)
+pub by_nil : {x : Lexical} {r : List ℕ} → GraphqlToken [] x r → (the_end ≡ x) × ([] ≡ r)
 by_nil graphql_end = (refl, refl)
 by_nil (graphql_number {r = r} n e l) = absurd (nil_number r n e)
 
-by_mark : {b : ℕ} {t r : List ℕ} {x : Lexical} {m : Mark} → Punctuator b m → GraphqlToken (b ∷ t) x r → (a_mark m ≡ x) × (t ≡ r)
+pub by_mark : {b : ℕ} {t r : List ℕ} {x : Lexical} {m : Mark} → Punctuator b m → GraphqlToken (b ∷ t) x r → (a_mark m ≡ x) × (t ≡ r)
 by_mark s (graphql_mark q) = (ap a_mark (one_punctuator s q), refl)
 by_mark s graphql_spread = absurd (mark_point (is_punctuator s))
 by_mark {b} s (graphql_name f p e a l) = absurd (mark_name b (is_punctuator s) f)
@@ -88,13 +88,13 @@ by_mark {b} s (graphql_number {r = r} n e l) = absurd (mark_no_number b (is_punc
 by_mark s (graphql_empty n) = absurd (mark_quote (is_punctuator s))
 by_mark s (graphql_string q) = absurd (mark_quote (is_punctuator s))
 
-by_point : {t r : List ℕ} {x : Lexical} → GraphqlToken (46 ∷ t) x r → (a_mark spread ≡ x) × (46 ∷ t ≡ 46 ∷ 46 ∷ 46 ∷ r)
+pub by_point : {t r : List ℕ} {x : Lexical} → GraphqlToken (46 ∷ t) x r → (a_mark spread ≡ x) × (46 ∷ t ≡ 46 ∷ 46 ∷ 46 ∷ r)
 by_point (graphql_mark q) = absurd (mark_point (is_punctuator q))
 by_point graphql_spread = (refl, refl)
 by_point (graphql_name f p e a l) = absurd (name_point f)
 by_point (graphql_number {r = r} n e l) = absurd (number_point (numeral_first r n e))
 
-by_name : {b : ℕ} {t r : List ℕ} {x : Lexical} → NameStart b → GraphqlToken (b ∷ t) x r → (bs : List ℕ) × NameRest bs × (t ≡ bs ++ r) × NotAhead NameContinue r × (length (b ∷ bs) ≤ 127) × (a_name (b ∷ bs) ≡ x)
+pub by_name : {b : ℕ} {t r : List ℕ} {x : Lexical} → NameStart b → GraphqlToken (b ∷ t) x r → (bs : List ℕ) × NameRest bs × (t ≡ bs ++ r) × NotAhead NameContinue r × (length (b ∷ bs) ≤ 127) × (a_name (b ∷ bs) ≡ x)
 by_name {b} s (graphql_mark q) = absurd (mark_name b (is_punctuator q) s)
 by_name s graphql_spread = absurd (name_point s)
 by_name s (graphql_name {bs = bs} f p e a l) = (bs, p, e, a, l, refl)
@@ -102,7 +102,7 @@ by_name {b} s (graphql_number {r = r} n e l) = absurd (name_number b s (numeral_
 by_name s (graphql_empty n) = absurd (name_quote s)
 by_name s (graphql_string q) = absurd (name_quote s)
 
-by_number : {b : ℕ} {t r : List ℕ} {x : Lexical} → NumberFirst b → GraphqlToken (b ∷ t) x r → (k : NumberKind) × (ds : List ℕ) × Numeral ds k × (b ∷ t ≡ ds ++ r) × NotAhead NumberGoesOn r × (a_number k ds ≡ x)
+pub by_number : {b : ℕ} {t r : List ℕ} {x : Lexical} → NumberFirst b → GraphqlToken (b ∷ t) x r → (k : NumberKind) × (ds : List ℕ) × Numeral ds k × (b ∷ t ≡ ds ++ r) × NotAhead NumberGoesOn r × (a_number k ds ≡ x)
 by_number {b} s (graphql_mark q) = absurd (mark_no_number b (is_punctuator q) s)
 by_number s graphql_spread = absurd (number_point s)
 by_number {b} s (graphql_name f p e a l) = absurd (name_number b f s)
@@ -110,7 +110,7 @@ by_number s (graphql_number {ds = ds} {kind = k} n e l) = (k, ds, n, e, l, refl)
 by_number s (graphql_empty n) = absurd (number_quote s)
 by_number s (graphql_string q) = absurd (number_quote s)
 
-by_quote : {t r : List ℕ} {x : Lexical} → GraphqlToken (34 ∷ t) x r → (cs : List ℕ) × Reads Graphql t cs r × (a_string cs ≡ x)
+pub by_quote : {t r : List ℕ} {x : Lexical} → GraphqlToken (34 ∷ t) x r → (cs : List ℕ) × Reads Graphql t cs r × (a_string cs ≡ x)
 by_quote (graphql_mark q) = absurd (mark_quote (is_punctuator q))
 by_quote (graphql_name f p e a l) = absurd (name_quote f)
 by_quote (graphql_number {r = r} n e l) = absurd (number_quote (numeral_first r n e))
@@ -144,7 +144,7 @@ by_empty : {xs r : List ℕ} → Reads Graphql xs [] r → xs ≡ 34 ∷ r
 by_empty none = refl
 
 -- a name is one run
-one_run : {us vs r s : List ℕ} → NameRest us → NotAhead NameContinue r → NameRest vs → NotAhead NameContinue s → us ++ r ≡ vs ++ s → (us ≡ vs) × (r ≡ s)
+pub one_run : {us vs r s : List ℕ} → NameRest us → NotAhead NameContinue r → NameRest vs → NotAhead NameContinue s → us ++ r ≡ vs ++ s → (us ≡ vs) × (r ≡ s)
 one_run name_ends m name_ends n e = (refl, e)
 one_run {s = s} name_ends m (name_goes {b} {bs} h q) n e = absurd (m b (bs ++ s) e h)
 one_run {r = r} (name_goes {b} {bs} h p) m name_ends n e = absurd (n b (bs ++ r) (sym e) h)

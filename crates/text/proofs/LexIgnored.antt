@@ -17,7 +17,7 @@ mark_bytes = refl
 encode-some : (c : ℕ) → 0 < length (encode c)
 encode-some c = omega (arith, length-encode c, (len_utf8_bounds c).0)
 
-ignored_not_mark : {b : ℕ} → IgnoredByte b → b ≡ 239 → ⊥
+pub ignored_not_mark : {b : ℕ} → IgnoredByte b → b ≡ 239 → ⊥
 ignored_not_mark w e = grind (arith, w, e)
 
 ignored_not_sign : {b : ℕ} → IgnoredByte b → b ≡ 35 → ⊥
@@ -30,11 +30,11 @@ some_char {xs} {r} {c} (utf8 s e) = omega (arith, ap length e, length-append (en
 pub low_char : {b c : ℕ} {t r : List ℕ} → b < 128 → Utf8Char (b ∷ t) c r → c ≡ b
 low_char {b} {c} {t} {r} h (utf8 s e) = char_from_byte (b ∷ t) r c e h (omega arith)
 
-mark_first : {b : ℕ} {t r : List ℕ} → ByteOrderMark (b ∷ t) r → b ≡ 239
+pub mark_first : {b : ℕ} {t r : List ℕ} → ByteOrderMark (b ∷ t) r → b ≡ 239
 mark_first {b} {t} {r} (utf8 s e) = let f : b ∷ t ≡ 239 ∷ 187 ∷ 191 ∷ r = e ∙ ap (λ l. l ++ r) mark_bytes in cc
 
 -- one character of a comment
-by_char : {xs r s : List ℕ} {c : ℕ} → Utf8Char xs c r → CommentChar xs s → (r ≡ s) × CommentCode c
+pub by_char : {xs r s : List ℕ} {c : ℕ} → Utf8Char xs c r → CommentChar xs s → (r ≡ s) × CommentCode c
 by_char {c = c} u (comment_char_rule v d) = let z = utf8_same v u in (sym z.1, subst CommentCode z.0 d)
 
 pub char_told : (text : List ℕ) (i j c : ℕ) → Exactly Utf8Char text i c j → (stands : Bool) → MatchBool stands (CommentCode c) (CommentCode c → ⊥) → StepTold CommentChar text i (then_some stands j)
@@ -47,7 +47,7 @@ char_told text i j c x true d = record {
 char_told text i j c x false n = λ r q. n (by_char x.reads q).1
 
 -- a comment
-by_sign : {t r : List ℕ} → Comment (35 ∷ t) r → CommentRest t r
+pub by_sign : {t r : List ℕ} → Comment (35 ∷ t) r → CommentRest t r
 by_sign (number_sign c) = c
 
 by_goes : {b : ℕ} {t ys r : List ℕ} → (LineTerminator b → ⊥) → ((s : List ℕ) → CommentChar (b ∷ t) s → ys ≡ s) → CommentRest (b ∷ t) r → CommentRest ys r
@@ -58,17 +58,17 @@ by_none : {b : ℕ} {t r : List ℕ} → (LineTerminator b → ⊥) → ((s : Li
 by_none n o (comment_breaks l) = n l
 by_none n o (comment_goes {ys = zs} j k) = o zs j
 
-nil_char : {r : List ℕ} → CommentChar [] r → ⊥
+pub nil_char : {r : List ℕ} → CommentChar [] r → ⊥
 nil_char (comment_char_rule u d) = omega (arith, some_char u)
 
-by_end : {r : List ℕ} → CommentRest [] r → [] ≡ r
+pub by_end : {r : List ℕ} → CommentRest [] r → [] ≡ r
 by_end comment_ends = refl
 by_end (comment_goes j k) = absurd (nil_char j)
 
-line_char : {b : ℕ} {t r : List ℕ} → LineTerminator b → CommentChar (b ∷ t) r → ⊥
+pub line_char : {b : ℕ} {t r : List ℕ} → LineTerminator b → CommentChar (b ∷ t) r → ⊥
 line_char {b} l (comment_char_rule {c = c} u d) = d.1 (subst LineTerminator (sym (low_char (⊎_elim (λ e. omega arith) (λ e. omega arith) l) u)) l)
 
-by_break : {b : ℕ} {t r : List ℕ} → LineTerminator b → CommentRest (b ∷ t) r → b ∷ t ≡ r
+pub by_break : {b : ℕ} {t r : List ℕ} → LineTerminator b → CommentRest (b ∷ t) r → b ∷ t ≡ r
 by_break l (comment_breaks m) = refl
 by_break l (comment_goes j k) = absurd (line_char l j)
 
@@ -133,12 +133,12 @@ nil_ignored (ignored_comment c) = elim c [ ]
 comment_first : {b : ℕ} {t r : List ℕ} → Comment (b ∷ t) r → b ≡ 35
 comment_first (number_sign c) = refl
 
-by_byte : {b : ℕ} {t r : List ℕ} → IgnoredByte b → GraphqlIgnored (b ∷ t) r → t ≡ r
+pub by_byte : {b : ℕ} {t r : List ℕ} → IgnoredByte b → GraphqlIgnored (b ∷ t) r → t ≡ r
 by_byte w (unicode_bom u) = let e = mark_first u in absurd (ignored_not_mark w e)
 by_byte w (ignored_byte_rule v) = refl
 by_byte w (ignored_comment c) = let e = comment_first c in absurd (ignored_not_sign w e)
 
-by_comment : {t r : List ℕ} → GraphqlIgnored (35 ∷ t) r → Comment (35 ∷ t) r
+pub by_comment : {t r : List ℕ} → GraphqlIgnored (35 ∷ t) r → Comment (35 ∷ t) r
 by_comment (unicode_bom u) = let e = mark_first u in absurd (omega arith)
 by_comment (ignored_byte_rule v) = absurd (ignored_not_sign v refl)
 by_comment (ignored_comment c) = c

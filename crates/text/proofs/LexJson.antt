@@ -93,24 +93,24 @@ quote_number : NumberFirst 34 → ⊥
 quote_number s = grind (arith, s)
 
 -- a token by its first byte
-by_nil : {x : Lexical} {r : List ℕ} → JsonToken [] x r → (the_end ≡ x) × ([] ≡ r)
+pub by_nil : {x : Lexical} {r : List ℕ} → JsonToken [] x r → (the_end ≡ x) × ([] ≡ r)
 by_nil json_end = (refl, refl)
 by_nil (json_literal {r = r} w e) = absurd (nil_literal r w e)
 by_nil (json_number {r = r} n e l) = absurd (nil_number r n e)
 
-by_mark : {b : ℕ} {t r : List ℕ} {x : Lexical} {m : Mark} → Structural b m → JsonToken (b ∷ t) x r → (a_mark m ≡ x) × (t ≡ r)
+pub by_mark : {b : ℕ} {t r : List ℕ} {x : Lexical} {m : Mark} → Structural b m → JsonToken (b ∷ t) x r → (a_mark m ≡ x) × (t ≡ r)
 by_mark s (json_mark q) = (ap a_mark (one_structural s q), refl)
 by_mark {b} s (json_literal {r = r} w e) = absurd (structural_letter b (is_structural s) (begins_literal r w e))
 by_mark {b} s (json_number {r = r} n e l) = absurd (structural_number b (is_structural s) (numeral_first r n e))
 by_mark s (json_string q) = absurd (quote_structural (is_structural s))
 
-by_quote : {t r : List ℕ} {x : Lexical} → JsonToken (34 ∷ t) x r → (cs : List ℕ) × Reads Json t cs r × (a_string cs ≡ x)
+pub by_quote : {t r : List ℕ} {x : Lexical} → JsonToken (34 ∷ t) x r → (cs : List ℕ) × Reads Json t cs r × (a_string cs ≡ x)
 by_quote (json_mark q) = absurd (quote_structural (is_structural q))
 by_quote (json_literal {r = r} w e) = absurd (quote_letter (begins_literal r w e))
 by_quote (json_number {r = r} n e l) = absurd (quote_number (numeral_first r n e))
 by_quote (json_string {cs = cs} q) = (cs, q, refl)
 
-by_number : {b : ℕ} {t r : List ℕ} {x : Lexical} → NumberFirst b → JsonToken (b ∷ t) x r → (k : NumberKind) × (ds : List ℕ) × Numeral ds k × (b ∷ t ≡ ds ++ r) × NotAhead (λ a. Begins (ds ++ a ∷ [])) r × (a_number k ds ≡ x)
+pub by_number : {b : ℕ} {t r : List ℕ} {x : Lexical} → NumberFirst b → JsonToken (b ∷ t) x r → (k : NumberKind) × (ds : List ℕ) × Numeral ds k × (b ∷ t ≡ ds ++ r) × NotAhead (λ a. Begins (ds ++ a ∷ [])) r × (a_number k ds ≡ x)
 by_number {b} f (json_mark q) = absurd (structural_number b (is_structural q) f)
 by_number {b} f (json_literal {r = r} w e) = absurd (number_letter b f (begins_literal r w e))
 by_number f (json_number {ds = ds} {kind = k} n e l) = (k, ds, n, e, l, refl)
@@ -133,7 +133,7 @@ is_letter false_name e = inl e
 is_letter null_name e = inr (inl e)
 is_letter true_name e = inr (inr e)
 
-by_literal : {b : ℕ} {t r v : List ℕ} {x : Lexical} → LiteralName v → b ≡ get_or v 0 0 → JsonToken (b ∷ t) x r → (b ∷ t ≡ v ++ r) × (a_name v ≡ x)
+pub by_literal : {b : ℕ} {t r v : List ℕ} {x : Lexical} → LiteralName v → b ≡ get_or v 0 0 → JsonToken (b ∷ t) x r → (b ∷ t ≡ v ++ r) × (a_name v ≡ x)
 by_literal {b} v g (json_mark q) = absurd (structural_letter b (is_structural q) (is_letter v g))
 by_literal {r = r} v g (json_literal w e) = let s = one_literal r v w g e in (e ∙ ap (λ l. l ++ r) (sym s), ap a_name s)
 by_literal {b} {r = r} v g (json_number n e l) = absurd (number_letter b (numeral_first r n e) (is_letter v g))
@@ -145,7 +145,7 @@ by_other {r = r} s q f l (json_literal w e) = l (begins_literal r w e)
 by_other {r = r} s q f l (json_number n e a) = f (numeral_first r n e)
 by_other s q f l (json_string p) = q refl
 
-append_same : (xs : List ℕ) {ys zs : List ℕ} → xs ++ ys ≡ xs ++ zs → ys ≡ zs
+pub append_same : (xs : List ℕ) {ys zs : List ℕ} → xs ++ ys ≡ xs ++ zs → ys ≡ zs
 append_same [] e = e
 append_same (x ∷ xs) {ys} {zs} e = let f : x ∷ (xs ++ ys) ≡ x ∷ (xs ++ zs) = e in let g : xs ++ ys ≡ xs ++ zs = cc in append_same xs g
 

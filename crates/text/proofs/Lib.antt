@@ -17,4 +17,5 @@ pub mod LexNumber
 pub mod LexJson
 pub mod LexIgnored
 pub mod LexGraphql
+pub mod LexOnce
 pub mod LexLaws
