@@ -1,1 +1,2 @@
+pub mod Diagnosed
 pub mod Faults

@@ -4,9 +4,15 @@
 ghost use Rattle.std.specs.Prelude.{◌≤◌, IfOk, vec_len};
 
 pub mod defaults;
+pub mod diagnostic;
+pub mod diagnostics;
 pub mod fault;
+pub mod literal;
+#[cfg(test)]
+mod literal_tests;
 #[cfg(test)]
 mod tests;
+pub mod variables;
 
 use fault::MakeFault;
 use lookup::{Lookup, Named, Table};
