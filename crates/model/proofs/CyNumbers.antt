@@ -5,7 +5,7 @@ use Rattle.model.specs.Values.{Schema}
 use Rattle.model.specs.Paths.{Steps, step, on, direct}
 use Rattle.model.specs.Cycles.{InputField, Among, first, later, Leads, leads, LeadsOn, OnCycle, Acyclic, input_fields, nth, LeadsByNumber, by_number}
 use Rattle.model.specs.CycleLaws.{CyclesByNumber}
-use Rattle.model.proofs.CyPaths.{through_zero, through_step, through_steps, steps_through}
+use Rattle.model.proofs.CyPaths.{steps_same, through_zero, through_step, through_steps, steps_through}
 use Rattle.model.proofs.CySettle.{lacks-among}
 
 pub one_some : {A : Type 0} {o : Option A} {x y : A} → o ≡ some x → o ≡ some y → x ≡ y
@@ -68,4 +68,11 @@ cycles_by_number S = (
   λ i j. (λ e. direct e, through_zero),
   through_step,
   λ i j. (steps_through (length (input_fields S)) (begins_below S), through_steps),
+)
+
+-- by any relation that is the one by numbers
+pub cycle_related : (S : Schema) (L : ℕ → ℕ → Type 0) → ((i j : ℕ) → L i j ↔ LeadsByNumber S i j) → (i : ℕ) (F : InputField) → nth (input_fields S) i ≡ some F → OnCycle S F ↔ Steps L i i
+cycle_related S L h i F p = (
+  λ c. steps_same (λ a b. (h a b).1) ((cycle_numbered S i F p).0 c),
+  λ s. (cycle_numbered S i F p).1 (steps_same (λ a b. (h a b).0) s),
 )

@@ -58,3 +58,8 @@ column_stays k p = elim (through_split k p) [ inl q ↦ q | inr q ↦ q.0 ]
 
 pub through_step : {E : ℕ → ℕ → Type 0} (k i j : ℕ) → Through E (suc k) i j ↔ Through E k i j ⊎ (Through E k i k × Through E k k j)
 through_step k i j = (through_split k, λ s. elim s [ inl p ↦ through_more (suc k) (omega arith) p | inr p ↦ through_pivot k p.0 p.1 ])
+
+-- relations that are the same have the same steps
+pub steps_same : {A : Type 0} {E F : A → A → Type 0} {a b : A} → ((x y : A) → E x y → F x y) → Steps E a b → Steps F a b
+steps_same h (step e) = step (h _ _ e)
+steps_same h (on e p) = on (h _ _ e) (steps_same h p)
