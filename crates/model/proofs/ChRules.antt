@@ -6,7 +6,7 @@ use Rattle.model.specs.Values.{Name, Raw, Raws, Mems, null, scalar, variable, li
 use Rattle.model.specs.Coercion.{first_undeclared, member}
 use Rattle.model.specs.Calls.{variable_of}
 use Rattle.model.specs.Checking.{FindingKind, unsupported_value_type, disallowed_variable_usage, undefined_variable, undefined_input_value, required_field, Finding, found, In, is_value, usage_allowed, inner, wrong_scalar, check_scalar, check_usage, if_undeclared, undeclared_in, undeclared_in_all, undeclared_in_mems, list_at_name, check_names, is_there, has_default, check_required, check_fields, check_object, check, check_all, check_member, VariableIn, VariableInAll, VariableInMems, v_itself, v_list, v_object, v_item, v_later_item, v_member, v_later_member}
-use Rattle.model.specs.Rules.{Misplaced, null_misplaced, scalar_misplaced, list_misplaced, object_misplaced, Custom, custom_list, custom_object, FieldIn, first_field, later_field, ItemIn, first_item, later_item, Lacks, Breaks, values_of_correct_type, input_object_field_names, input_object_required_fields, all_variable_uses_defined, all_inner_uses_defined, all_variable_usages_are_allowed, Broken, by_itself, by_item, by_member}
+use Rattle.model.specs.Rules.{Misplaced, null_misplaced, scalar_misplaced, list_misplaced, object_misplaced, Custom, custom_list, custom_object, Among, the_first, a_later, ItemIn, first_item, later_item, Lacks, Breaks, values_of_correct_type, input_object_field_names, input_object_required_fields, all_variable_uses_defined, all_inner_uses_defined, all_variable_usages_are_allowed, Broken, by_itself, by_item, by_member}
 use Rattle.model.specs.CheckLaws.{FindsTheBroken}
 use Rattle.model.proofs.ChFound.{Each, each_append, each_cond, each_in, in_left, in_right}
 use Rattle.model.proofs.ChScalars.{Said, wrong_said, said_more, wrong_is}
@@ -91,11 +91,11 @@ each_three P false false false fs k = k refl refl refl
 required_told : (P : Told) (at : ℕ) (f : Field) (m : Option Raw) → (nullable f.ty ≡ false → f.dflt ≡ none → (m ≡ none) ⊎ ((a : ℕ) × (m ≡ some (null a))) → P required_field at) → Each P (check_required at f m)
 required_told P at f m k = each_three P (nullable f.ty) (has_default f) (is_value m) (found required_field at) (λ a b c. (k a (is_none f.dflt b) (is_lacking m c), tt))
 
-fields_told : (P : Told) (at : ℕ) (ms : Mems) (g : Field → List Finding) (fs : List Field) → ((f : Field) → FieldIn f fs → Each P (check_required at f (member ms f.name))) → ((f : Field) → FieldIn f fs → Each P (g f)) → Each P (check_fields at ms g fs)
+fields_told : (P : Told) (at : ℕ) (ms : Mems) (g : Field → List Finding) (fs : List Field) → ((f : Field) → Among f fs → Each P (check_required at f (member ms f.name))) → ((f : Field) → Among f fs → Each P (g f)) → Each P (check_fields at ms g fs)
 fields_told P at ms g [] h k = tt
 fields_told P at ms g (f ∷ fs) h k =
-    each_append P (check_required at f (member ms f.name)) (g f ++ check_fields at ms g fs) (h f first_field)
-    (each_append P (g f) (check_fields at ms g fs) (k f first_field) (fields_told P at ms g fs (λ e i. h e (later_field i)) (λ e i. k e (later_field i))))
+    each_append P (check_required at f (member ms f.name)) (g f ++ check_fields at ms g fs) (h f the_first)
+    (each_append P (g f) (check_fields at ms g fs) (k f the_first) (fields_told P at ms g fs (λ e i. h e (a_later i)) (λ e i. k e (a_later i))))
 
 usage_told : (S : Schema) (vs : List Variable) (P : Told) (d : Bool) (lone at : ℕ) (n : Name) (t : Ty) (o : Option Variable) → variable_of vs n ≡ o → ((k : FindingKind) (p : ℕ) → Breaks S vs k p d lone (variable at n) t → P k p) → Each P (check_usage d lone at t o)
 usage_told S vs P d lone at n t none e k = (k undefined_variable at (all_variable_uses_defined e), tt)
@@ -170,13 +170,13 @@ inner_in S vs (custom_list e) (v_list i) u d lone = rw e (all_contents_in vs i u
 inner_in S vs (custom_object e) (v_object i) u d lone = rw e (member_contents_in vs i u)
 
 -- what is found of one field is found of the object
-by_required : (z : Finding) (at : ℕ) (ms : Mems) (g : Field → List Finding) {f : Field} {fs : List Field} → FieldIn f fs → In z (check_required at f (member ms f.name)) → In z (check_fields at ms g fs)
-by_required z at ms g {f} (first_field {fs = fs}) i = in_left z (check_required at f (member ms f.name)) (g f ++ check_fields at ms g fs) i
-by_required z at ms g (later_field {g = e} {fs = fs} h) i = in_right z (check_required at e (member ms e.name)) (g e ++ check_fields at ms g fs) (in_right z (g e) (check_fields at ms g fs) (by_required z at ms g h i))
+by_required : (z : Finding) (at : ℕ) (ms : Mems) (g : Field → List Finding) {f : Field} {fs : List Field} → Among f fs → In z (check_required at f (member ms f.name)) → In z (check_fields at ms g fs)
+by_required z at ms g {f} (the_first {xs = fs}) i = in_left z (check_required at f (member ms f.name)) (g f ++ check_fields at ms g fs) i
+by_required z at ms g (a_later {y = e} {xs = fs} h) i = in_right z (check_required at e (member ms e.name)) (g e ++ check_fields at ms g fs) (in_right z (g e) (check_fields at ms g fs) (by_required z at ms g h i))
 
-by_field : (z : Finding) (at : ℕ) (ms : Mems) (g : Field → List Finding) {f : Field} {fs : List Field} → FieldIn f fs → In z (g f) → In z (check_fields at ms g fs)
-by_field z at ms g {f} (first_field {fs = fs}) i = in_right z (check_required at f (member ms f.name)) (g f ++ check_fields at ms g fs) (in_left z (g f) (check_fields at ms g fs) i)
-by_field z at ms g (later_field {g = e} {fs = fs} h) i = in_right z (check_required at e (member ms e.name)) (g e ++ check_fields at ms g fs) (in_right z (g e) (check_fields at ms g fs) (by_field z at ms g h i))
+by_field : (z : Finding) (at : ℕ) (ms : Mems) (g : Field → List Finding) {f : Field} {fs : List Field} → Among f fs → In z (g f) → In z (check_fields at ms g fs)
+by_field z at ms g {f} (the_first {xs = fs}) i = in_right z (check_required at f (member ms f.name)) (g f ++ check_fields at ms g fs) (in_left z (g f) (check_fields at ms g fs) i)
+by_field z at ms g (a_later {y = e} {xs = fs} h) i = in_right z (check_required at e (member ms e.name)) (g e ++ check_fields at ms g fs) (in_right z (g e) (check_fields at ms g fs) (by_field z at ms g h i))
 
 object_is : (z : Finding) (at : ℕ) (ms : Mems) (contents : List Finding) (g : Field → List Finding) (fs : List Field) (D : Def) → D ≡ input_d fs → In z (check_names (first_undeclared (field_names fs) ms) ++ check_fields at ms g fs) → In z (check_object at ms contents g D)
 object_is z at ms contents g fs D e i = rw e i

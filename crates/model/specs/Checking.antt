@@ -11,7 +11,13 @@ use Rattle.model.specs.Calls.{variable_of}
 -- FINDINGS
 
 pub data FindingKind : Type 0 where
+  unique_argument : FindingKind
+  unique_directive : FindingKind
+  undefined_directive : FindingKind
+  unsupported_location : FindingKind
   disallowed_variable_usage : FindingKind
+  undefined_argument : FindingKind
+  required_argument : FindingKind
   unsupported_value_type : FindingKind
   int_coercion_error : FindingKind
   float_coercion_error : FindingKind
@@ -21,7 +27,13 @@ pub data FindingKind : Type 0 where
   required_field : FindingKind
 
 abbrev pub finding_number : FindingKind → ℕ
+finding_number unique_argument = 101
+finding_number unique_directive = 102
+finding_number undefined_directive = 103
+finding_number unsupported_location = 104
 finding_number disallowed_variable_usage = 105
+finding_number undefined_argument = 106
+finding_number required_argument = 107
 finding_number unsupported_value_type = 108
 finding_number int_coercion_error = 109
 finding_number float_coercion_error = 110

@@ -17,8 +17,11 @@ pub mod Calls
 pub mod Twins
 pub mod Checking
 pub mod Rules
+pub mod Uses
+pub mod UseRules
 pub mod Laws
 pub mod CheckLaws
+pub mod UseLaws
 pub mod CycleLaws
 pub mod Cases
 pub mod CheckCases

@@ -39,10 +39,10 @@ pub data Custom (S : Schema) : Ty → Raw → Type 0 where
   custom_list : {b : Bool} {n : Name} {at : ℕ} {xs : Raws} → find S n ≡ custom_d → Custom S (named b n) (list at xs)
   custom_object : {t : Ty} {at : ℕ} {ms : Mems} → find S (inner t) ≡ custom_d → Custom S t (object at ms)
 
--- f is one of the fields
-pub data FieldIn (f : Field) : List Field → Type 0 where
-  first_field : {fs : List Field} → FieldIn f (f ∷ fs)
-  later_field : {g : Field} {fs : List Field} → FieldIn f fs → FieldIn f (g ∷ fs)
+-- x is in a list
+pub data Among {X : Type 0} (x : X) : List X → Type 0 where
+  the_first : {xs : List X} → Among x (x ∷ xs)
+  a_later : {y : X} {xs : List X} → Among x xs → Among x (y ∷ xs)
 
 pub data ItemIn (x : Raw) : Raws → Type 0 where
   first_item : {xs : Raws} → ItemIn x (cons x xs)
@@ -60,7 +60,7 @@ pub data Breaks (S : Schema) (vs : List Variable) : FindingKind → ℕ → Bool
   input_object_field_names : {p lone at : ℕ} {d : Bool} {ms : Mems} {t : Ty} {fs : List Field} → find S (inner t) ≡ input_d fs → first_undeclared (field_names fs) ms ≡ some p
       → Breaks S vs undefined_input_value p d lone (object at ms) t
   -- 5.6.4: a field that is non-null and without a default is there and not null
-  input_object_required_fields : {lone at : ℕ} {d : Bool} {ms : Mems} {t : Ty} {fs : List Field} (f : Field) → find S (inner t) ≡ input_d fs → FieldIn f fs → nullable f.ty ≡ false → f.dflt ≡ none → Lacks ms f
+  input_object_required_fields : {lone at : ℕ} {d : Bool} {ms : Mems} {t : Ty} {fs : List Field} (f : Field) → find S (inner t) ≡ input_d fs → Among f fs → nullable f.ty ≡ false → f.dflt ≡ none → Lacks ms f
       → Breaks S vs required_field at d lone (object at ms) t
   -- 5.8.3: a variable is declared, in the contents of custom scalars too
   all_variable_uses_defined : {lone at : ℕ} {d : Bool} {n : Name} {t : Ty} → variable_of vs n ≡ none → Breaks S vs undefined_variable at d lone (variable at n) t
@@ -72,5 +72,5 @@ pub data Breaks (S : Schema) (vs : List Variable) : FindingKind → ℕ → Bool
 pub data Broken (S : Schema) (vs : List Variable) (k : FindingKind) (p : ℕ) : Bool → ℕ → Raw → Ty → Type 0 where
   by_itself : {d : Bool} {lone : ℕ} {v : Raw} {t : Ty} → Breaks S vs k p d lone v t → Broken S vs k p d lone v t
   by_item : {d b : Bool} {lone at : ℕ} {xs : Raws} {t : Ty} (x : Raw) → ItemIn x xs → Broken S vs k p false (place_of x) x t → Broken S vs k p d lone (list at xs) (list_of b t)
-  by_member : {d : Bool} {lone at : ℕ} {ms : Mems} {t : Ty} {fs : List Field} (f : Field) (x : Raw) → find S (inner t) ≡ input_d fs → FieldIn f fs → member ms f.name ≡ some x
+  by_member : {d : Bool} {lone at : ℕ} {ms : Mems} {t : Ty} {fs : List Field} (f : Field) (x : Raw) → find S (inner t) ≡ input_d fs → Among f fs → member ms f.name ≡ some x
       → Broken S vs k p (has_default f) (place_of x) x f.ty → Broken S vs k p d lone (object at ms) t
