@@ -67,6 +67,14 @@ impl Relation {
         }
     }
 
+    pub fn leads(&self, from: usize, to: usize) -> bool
+        requires from { from < vec_len self.now.rows }
+        requires to { to < MOST }
+        ensures { result ≡ leads self.now.rows.items from to }
+    {
+        self.rows[from].contains(to)
+    }
+
     // The first number that leads to itself.
     pub fn first_to_itself(&self) -> Option<usize>
         ensures { First (λ i. leads self.now.rows.items i i) result }

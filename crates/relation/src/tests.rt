@@ -53,4 +53,5 @@ fn all_numbers(rt: HostRuntime) {
     relation.add(0, 69);
     relation.close();
     assert_eq!(rt; relation.first_to_itself(), Some(0));
+    assert!(rt; relation.leads(64, 65));
 }
