@@ -6,13 +6,16 @@ use crate::{Lookup, hash};
 
 // The lookup, and at each slot the number of a name. A name is searched for from the slot of its hash on, and the
 // search ends where it meets the name or an empty slot. What it does not meet, the lookup is asked for.
-// Half of the slots are for numbers, so that a search soon meets an empty one: 512 slots hold 256 names.
+// Half of the slots are for numbers, so that a search soon meets an empty one.
 #[derive(Drop)]
-pub struct Index<L: Lookup, const SLOTS: usize> {
+pub struct Hashed<L: Lookup, const SLOTS: usize> {
     inner: L,
     slots: [Option<u16>; SLOTS],
     ghost sound: { Sound (L.names inner) slots },
 }
+
+// The index: it holds the numbers of the first 256 names.
+pub type Index<L> = Hashed<L, 512>;
 
 // How a search ends.
 #[derive(Clone, Copy)]
@@ -69,16 +72,16 @@ fn numbered<L: Lookup, const SLOTS: usize>(inner: &L) -> [Option<u16>; SLOTS]
     slots
 }
 
-impl<L: Lookup, const SLOTS: usize> Index<L, SLOTS> {
-    pub fn new(inner: L) -> Index<L, SLOTS>
+impl<L: Lookup, const SLOTS: usize> Hashed<L, SLOTS> {
+    pub fn new(inner: L) -> Hashed<L, SLOTS>
         ensures { result.inner ≡ inner }
     {
         let slots = numbered(&inner);
-        Index { inner, slots }
+        Hashed { inner, slots }
     }
 }
 
-impl<L: Lookup, const SLOTS: usize> Lookup for Index<L, SLOTS> {
+impl<L: Lookup, const SLOTS: usize> Lookup for Hashed<L, SLOTS> {
     ghost names = { λ x. L.names x.inner };
 
     fn find(&self, name: &[u8]) -> Option<usize> {

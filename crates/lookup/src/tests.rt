@@ -44,7 +44,7 @@ fn all_are_found(rt: HostRuntime) {
     ] {
         let count = records.len();
         let table = Table::new(records);
-        let index = Index::<Table<'_, Pair>, 512>::new(table);
+        let index = Index::new(table);
         assert_eq!(rt; found(&table, count), count);
         assert_eq!(rt; found(&index, count), count);
         assert_eq!(rt; index.len(), count);
@@ -59,6 +59,6 @@ fn the_first_of_two(rt: HostRuntime) {
     let names = [Pair(*b"ab"), Pair(*b"cd"), Pair(*b"ab")];
     let table = Table::new(&names);
     assert_eq!(rt; table.find(b"ab"), Some(0));
-    let index = Index::<Table<'_, Pair>, 512>::new(table);
+    let index = Index::new(table);
     assert_eq!(rt; index.find(b"ab"), Some(0));
 }

@@ -1,2 +1,4 @@
 pub mod Diagnosed
 pub mod Faults
+pub mod Places
+pub mod Making

@@ -10,8 +10,10 @@ pub mod fault;
 pub mod literal;
 #[cfg(test)]
 mod literal_tests;
+mod place;
 #[cfg(test)]
 mod tests;
+pub mod types;
 pub mod variables;
 
 use fault::MakeFault;
