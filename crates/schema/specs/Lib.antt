@@ -13,4 +13,6 @@ pub mod Rows
 pub mod Holds
 pub mod SchemaTold
 pub mod Told
+pub mod TypeTold
+pub mod DeclarationTold
 pub mod Words

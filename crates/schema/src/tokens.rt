@@ -40,6 +40,8 @@ pub struct Tokens<'a> {
 }
 
 impl<'a> Tokens<'a> {
+    ghost use Rattle.source.specs.Table.{table_of, Stands, Keeps};
+    ghost use Rattle.schema.specs.Declarations.{ReadsLiteral};
     ghost use Rattle.schema.specs.Outcomes.{Takes, any_name};
     ghost use Rattle.schema.specs.Reading.{Onward, past};
     ghost use Rattle.schema.specs.Told.{Told, Itself, Labels, Spelled, is_token, the_token, TokenIfAny};
@@ -119,6 +121,8 @@ impl<'a> Tokens<'a> {
 
     // Adds the nodes of the literal that comes next: its cursor.
     pub(crate) fn literal(&mut self, nodes: &mut Nodes) -> Result<usize, Fault>
+        ensures told { Told 1 ReadsLiteral (Stands (table_of self.old.text.now nodes.new)) self.old self.new result }
+        ensures keeps { IfOk result (λ _. Keeps 0 (table_of self.old.text.now nodes.old) (table_of self.old.text.now nodes.new)) }
         ensures onward { IfOk result (λ _. Onward 1 self.old self.new) }
         ensures root { IfOk result (λ root. root ≡ vec_len nodes.old.list) }
     {

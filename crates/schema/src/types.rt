@@ -1,6 +1,8 @@
 // Types of variables and fields.
 ghost use Rattle.std.specs.Prelude.{◌≡◌, ◌-◌, ◌≤◌, ◌↔◌, true, IfOk, IsTrue, nat_lt, slice_get};
-ghost use Rattle.schema.specs.Reading.{Onward};
+ghost use Rattle.schema.specs.Told.{Told, Itself};
+ghost use Rattle.schema.specs.Types.{ReadsType};
+ghost use Rattle.schema.specs.TypeTold.{TypeIs, ReadsBang, OpeningTold};
 
 use crate::tokens::{Name, Tokens};
 use text::fault::Fault;
@@ -102,15 +104,16 @@ impl<'a, B: Copy> Type<'a, B> {
 
 // The type that comes next.
 pub(crate) fn read_type<'a>(tokens: &mut Tokens<'a>) -> Result<Type<'a, ()>, Fault>
-    ensures { IfOk result (λ ty. Onward 1 tokens.old tokens.new × (ty.shape.levels ≤ 8)) }
+    ensures told { Told 1 (λ N. ReadsType N 8) TypeIs tokens.old tokens.new result }
+    ensures levels { IfOk result (λ ty. ty.shape.levels ≤ 8) }
 {
     let levels = opening(tokens)?;
     let Name { name, place } = tokens.name()?;
     let mut non_null = [false; MARKS];
     non_null[0] = non_null_mark(tokens)?;
-    for mark in &mut non_null[1..=levels] {
+    for level in 0..levels {
         tokens.expect(Token::CloseBracket)?;
-        *mark = non_null_mark(tokens)?;
+        non_null[level + 1] = non_null_mark(tokens)?;
     }
     Ok(Type {
         shape: Shape {
@@ -125,7 +128,7 @@ pub(crate) fn read_type<'a>(tokens: &mut Tokens<'a>) -> Result<Type<'a, ()>, Fau
 
 // How many `[` come next.
 fn opening(tokens: &mut Tokens<'_>) -> Result<usize, Fault>
-    ensures { IfOk result (λ levels. Onward 0 tokens.old tokens.new × (levels ≤ 8)) }
+    ensures { OpeningTold tokens.old tokens.new result }
 {
     let mut levels = 0;
     while let Some(place) = tokens.eat(Token::OpenBracket)? {
@@ -139,7 +142,7 @@ fn opening(tokens: &mut Tokens<'_>) -> Result<usize, Fault>
 
 // Whether a `!` comes next.
 fn non_null_mark(tokens: &mut Tokens<'_>) -> Result<bool, Fault>
-    ensures { IfOk result (λ _. Onward 0 tokens.old tokens.new) }
+    ensures { Told 0 ReadsBang Itself tokens.old tokens.new result }
 {
     Ok(tokens.eat(Token::Bang)?.is_some())
 }
