@@ -14,7 +14,7 @@ use Rattle.model.proofs.ChUsage.{allowed_exactly}
 
 -- WHAT IS TOLD IS BROKEN
 
-abbrev Told : Type 1
+abbrev pub Told : Type 1
 Told = FindingKind → ℕ → Type 0
 
 scalar_told : (P : Told) (at : ℕ) (o : Option FindingKind) → Said (λ k. P k at) o → Each P (check_scalar at o)
@@ -73,12 +73,12 @@ names_told P none k = tt
 names_told P (some p) k = (k p refl, tt)
 
 -- required fields
-is_lacking : (m : Option Raw) → is_value m ≡ false → (m ≡ none) ⊎ ((at : ℕ) × (m ≡ some (null at)))
+pub is_lacking : (m : Option Raw) → is_value m ≡ false → (m ≡ none) ⊎ ((at : ℕ) × (m ≡ some (null at)))
 is_lacking none e = inl refl
 is_lacking (some (null at)) e = inr (at, refl)
 is_lacking (some x) e = absurd (both_ways true e refl)
 
-is_none : (o : Option Raw) → is_there o ≡ false → o ≡ none
+pub is_none : (o : Option Raw) → is_there o ≡ false → o ≡ none
 is_none none e = refl
 is_none (some x) e = absurd (both_ways true e refl)
 
@@ -104,7 +104,7 @@ usage_told S vs P d lone at n t (some v) e k =
     (λ a. (k disallowed_variable_usage lone (all_variable_usages_are_allowed v e (λ u. both_ways (usage_allowed v.field d t) a ((allowed_exactly v.field d t).1 u))), tt))
 
 mutual
-  told : (S : Schema) (vs : List Variable) (d : Bool) (lone : ℕ) (v : Raw) (t : Ty) (P : Told) → ((k : FindingKind) (p : ℕ) → Broken S vs k p d lone v t → P k p) → Each P (check S vs d lone v t)
+  pub told : (S : Schema) (vs : List Variable) (d : Bool) (lone : ℕ) (v : Raw) (t : Ty) (P : Told) → ((k : FindingKind) (p : ℕ) → Broken S vs k p d lone v t → P k p) → Each P (check S vs d lone v t)
   told S vs d lone (null at) t P c = each_cond P (nullable t) [] (found unsupported_value_type at) (λ e. tt) (λ e. (c unsupported_value_type at (by_itself (values_of_correct_type (null_misplaced e) refl)), tt))
   told S vs d lone (scalar at s) t P c = scalar_told P at (wrong_scalar (find S (inner t)) s) (said_more (wrong_scalar (find S (inner t)) s) (wrong_said (find S (inner t)) s) (λ k u. c k at (by_itself (values_of_correct_type (scalar_misplaced u) refl))))
   told S vs d lone (variable at n) t P c = usage_told S vs P d lone at n t (variable_of vs n) refl (λ k p b. c k p (by_itself b))
@@ -219,7 +219,7 @@ member_in : (S : Schema) (vs : List Variable) (z : Finding) (ms : Mems) (f : Fie
 member_in S vs z end f x e i = let w : ◌≡◌ {A = ℕ} 0 1 = cc in absurd (omega arith)
 member_in S vs z (mem m y ms) f x e i = one_member z (λ r. check S vs (has_default f) (place_of r) r f.ty) (same m f.name) x y (member ms f.name) (check_member S vs ms f) e i (λ u. member_in S vs z ms f x u i)
 
-broken_in : (S : Schema) (vs : List Variable) {k : FindingKind} {p : ℕ} {d : Bool} {lone : ℕ} {v : Raw} {t : Ty} → Broken S vs k p d lone v t → In (finding k p) (check S vs d lone v t)
+pub broken_in : (S : Schema) (vs : List Variable) {k : FindingKind} {p : ℕ} {d : Bool} {lone : ℕ} {v : Raw} {t : Ty} → Broken S vs k p d lone v t → In (finding k p) (check S vs d lone v t)
 broken_in S vs (by_itself b) = breaks_in S vs b
 broken_in S vs {k} {p} (by_item {t = t} x i b) = item_in S vs (finding k p) i t (broken_in S vs b)
 broken_in S vs {k} {p} (by_member {at = at} {ms = ms} {t = t} {fs = fs} f x e i m b) =

@@ -11,13 +11,13 @@ use Rattle.model.specs.CheckLaws.{TwinsFindAlike}
 use Rattle.model.proofs.CoTwins.{Undeclared, neither, both, undeclared_same, TwinSlot, no_value, two_values, twin_member}
 
 -- the kinds of two lists of findings are the same
-abbrev Alike : List Finding → List Finding → Type 0
+abbrev pub Alike : List Finding → List Finding → Type 0
 Alike fs gs = map (λ f. f.kind) fs ≡ map (λ f. f.kind) gs
 
-alike_append : (fs gs hs is : List Finding) → Alike fs gs → Alike hs is → Alike (fs ++ hs) (gs ++ is)
+pub alike_append : (fs gs hs is : List Finding) → Alike fs gs → Alike hs is → Alike (fs ++ hs) (gs ++ is)
 alike_append fs gs hs is e k = rw (map-append (λ f. f.kind) fs hs, map-append (λ f. f.kind) gs is, e, k) refl
 
-alike_cond : (b : Bool) (fs gs hs is : List Finding) → Alike fs gs → Alike hs is → Alike (cond b fs hs) (cond b gs is)
+pub alike_cond : (b : Bool) (fs gs hs is : List Finding) → Alike fs gs → Alike hs is → Alike (cond b fs hs) (cond b gs is)
 alike_cond true fs gs hs is e k = e
 alike_cond false fs gs hs is e k = k
 
@@ -57,7 +57,7 @@ names_alike : {u w : Option ℕ} → Undeclared u w → Alike (check_names u) (c
 names_alike neither = refl
 names_alike both = refl
 
-is_value_alike : {m n : Option Raw} → TwinSlot m n → is_value m ≡ is_value n
+pub is_value_alike : {m n : Option Raw} → TwinSlot m n → is_value m ≡ is_value n
 is_value_alike no_value = refl
 is_value_alike (two_values w_null) = refl
 is_value_alike (two_values (w_scalar e)) = refl

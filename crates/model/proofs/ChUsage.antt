@@ -60,7 +60,7 @@ both false c e = absurd_bool e
 not_null : (x : Raw) → is_value (some x) ≡ true → (at : ℕ) → x ≡ null at → ⊥
 not_null x h at e = absurd_bool (subst (λ y. is_value (some y) ≡ true) e h)
 
-default_means : (o : Option Raw) → is_value o ≡ true → (x : Raw) × (o ≡ some x) × ((at : ℕ) → x ≡ null at → ⊥)
+pub default_means : (o : Option Raw) → is_value o ≡ true → (x : Raw) × (o ≡ some x) × ((at : ℕ) → x ≡ null at → ⊥)
 default_means none e = absurd_bool e
 default_means (some x) e = (x, refl, not_null x e)
 
@@ -68,7 +68,7 @@ null_or_value : (x : Raw) → ((at : ℕ) → x ≡ null at → ⊥) → is_valu
 null_or_value (null at) h = absurd (h at refl)
 null_or_value x h = refl
 
-means_default : (o : Option Raw) → (x : Raw) × (o ≡ some x) × ((at : ℕ) → x ≡ null at → ⊥) → is_value o ≡ true
+pub means_default : (o : Option Raw) → (x : Raw) × (o ≡ some x) × ((at : ℕ) → x ≡ null at → ⊥) → is_value o ≡ true
 means_default o h = subst (λ p. is_value p ≡ true) (sym h.1) (null_or_value h.0 h.2)
 
 allowed_means : (v : Field) (d : Bool) (l : Ty) (b c : Bool) → nullable l ≡ b → nullable v.ty ≡ c → cond (not b && c) ((is_value v.dflt || d) && compatible v.ty (as_nullable l)) (compatible v.ty l) ≡ true → IsVariableUsageAllowed v d l

@@ -151,7 +151,7 @@ pub data TwinSlot : Option Raw → Option Raw → Type 0 where
   no_value : TwinSlot none none
   two_values : {x y : Raw} → Twin x y → TwinSlot (some x) (some y)
 
-slot_cond : (c : Bool) {x y : Raw} {u w : Option Raw} → Twin x y → TwinSlot u w → TwinSlot (cond c (some x) u) (cond c (some y) w)
+pub slot_cond : (c : Bool) {x y : Raw} {u w : Option Raw} → Twin x y → TwinSlot u w → TwinSlot (cond c (some x) u) (cond c (some y) w)
 slot_cond true k f = two_values k
 slot_cond false k f = f
 

@@ -45,3 +45,8 @@ pub mod ChSilent
 pub mod ChCoerces
 pub mod ChTwins
 pub mod ChFree
+pub mod ChEach
+pub mod ChUses
+pub mod ChFaultless
+pub mod ChTurns
+pub mod ChUseTwins

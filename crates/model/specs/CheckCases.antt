@@ -12,13 +12,13 @@ pub record Checked : Type 0 where
   pub finds : List Finding
 
 -- enum E {ONE}, scalar Any, input A {a: Int!, b: [Int!]! = 1, e: E}
-abbrev int : Bool → Ty
+abbrev pub int : Bool → Ty
 int b = named b (codes "Int")
 
 abbrev one : Raw
 one = scalar 90 (whole (codes "1"))
 
-abbrev field : Name → Ty → Field
+abbrev pub field : Name → Ty → Field
 field n t = record { name = n; ty = t; dflt = none }
 
 abbrev schema : Schema
@@ -51,7 +51,7 @@ at_e v fs = record { has_default = false; value = v; ty = named true (codes "E")
 abbrev at_int : Bool → Name → List Finding → Checked
 at_int d n fs = record { has_default = d; value = variable 0 n; ty = int false; finds = fs }
 
-abbrev told : FindingKind → ℕ → List Finding → List Finding
+abbrev pub told : FindingKind → ℕ → List Finding → List Finding
 told k at fs = record { kind = k; place = at } ∷ fs
 
 abbrev checked : List Checked

@@ -25,4 +25,5 @@ pub mod UseLaws
 pub mod CycleLaws
 pub mod Cases
 pub mod CheckCases
+pub mod UseCases
 pub mod CycleCases

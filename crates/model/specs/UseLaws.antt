@@ -1,9 +1,10 @@
 -- The laws of the check of directive uses, each stated once; small public functions have them as contracts.
-use Rattle.std.specs.Prelude.{◌≡◌, ℕ, ◌≤◌, false, List, [], ◌∷◌, ◌++◌}
+use Rattle.std.specs.Prelude.{◌≡◌, ℕ, ◌≤◌, false, List, [], ◌∷◌, ◌++◌, map}
 use Rattle.std.proofs.Math.Option.{none, some}
 use Rattle.model.specs.Values.{Raw, null, nullable, Field, Location, Directive, Schema, Argument, Use, Variable, has}
 use Rattle.model.specs.Back.{Distinct}
 use Rattle.model.specs.Checking.{FindingKind, unique_argument, unique_directive, undefined_directive, unsupported_location, required_argument, Finding, In, has_default, check}
+use Rattle.model.specs.Twins.{Twin}
 use Rattle.model.specs.Rules.{Among}
 use Rattle.model.specs.Uses.{use_names, argument_names, directive_named, argument_named, value_given, of_each_after, check_use, check_uses}
 use Rattle.model.specs.UseRules.{UseBreaks, UsesBreak}
@@ -50,3 +51,20 @@ SilentIsFaultless = (S : Schema) (vs : List Variable) (l : Location)
     → ((before : List Use) (u : Use) → (check_use S vs before l u ≡ [] → FaultlessUse S vs before l u) × (FaultlessUse S vs before l u → check_use S vs before l u ≡ []))
     × ((us : List Use) → (check_uses S vs l us ≡ [] → (before : List Use) (u : Use) (after : List Use) → us ≡ before ++ (u ∷ after) → FaultlessUse S vs before l u)
     × (((before : List Use) (u : Use) (after : List Use) → us ≡ before ++ (u ∷ after) → FaultlessUse S vs before l u) → check_uses S vs l us ≡ []))
+
+-- arguments and uses that are the same but for their places
+abbrev pub TwinArguments : List Argument → List Argument → Type 0
+TwinArguments [] [] = Unit {0}
+TwinArguments [] (b ∷ ys) = ⊥
+TwinArguments (a ∷ xs) [] = ⊥
+TwinArguments (a ∷ xs) (b ∷ ys) = (a.name ≡ b.name) × Twin a.value b.value × TwinArguments xs ys
+
+abbrev pub TwinUses : List Use → List Use → Type 0
+TwinUses [] [] = Unit {0}
+TwinUses [] (w ∷ ws) = ⊥
+TwinUses (u ∷ us) [] = ⊥
+TwinUses (u ∷ us) (w ∷ ws) = (u.name ≡ w.name) × TwinArguments u.arguments w.arguments × TwinUses us ws
+
+-- they have findings of the same kinds
+abbrev pub TwinUsesFindAlike : Type 0
+TwinUsesFindAlike = (S : Schema) (vs : List Variable) (l : Location) (us ws : List Use) → TwinUses us ws → map (λ f. f.kind) (check_uses S vs l us) ≡ map (λ f. f.kind) (check_uses S vs l ws)

@@ -3,10 +3,12 @@
 
 ghost use Rattle.model.specs.Cases.{WorkedCases};
 ghost use Rattle.model.specs.CheckCases.{CheckedCases};
+ghost use Rattle.model.specs.UseCases.{CheckedUses};
 ghost use Rattle.model.specs.CycleCases.{CycleCases};
 ghost use Rattle.model.specs.Laws.{WholeAsDecimal, SameNumber, ScalarsExactly, OutcomeStays, AllSettle, AcceptsExactly, TakesOnce, WalkAgrees, WalkFits, EncodeInjective, SizeIsLength, DecodesOnce, AcceptsConforming, AcceptsWithin, ComesBack, SameWhenAlike, RunsStand, LoadCoerces, ExtentsCut, EqualBytesWhenAlike, LoadsBack, ShownAreTwins, PlacesDoNotMatter};
 ghost use Rattle.model.specs.CycleLaws.{AcyclicSettles, CyclesNeverSettle, AcyclicExactly, AcyclicWhenTaken, CyclesByNumber, NumberedOnce};
 ghost use Rattle.model.specs.CheckLaws.{UsageExactly, UncoercibleExactly, FindsTheBroken, SilenceIsCoercion, SilenceLeavesTheRule, SilenceHoldsNoVariable, TwinsFindAlike};
+ghost use Rattle.model.specs.UseLaws.{UsesFindTheBroken, FoundInTurn, SilentIsFaultless, TwinUsesFindAlike};
 
 // Each worked case leaves what it says, computed from the definitions.
 pub fn worked_cases_stand()
@@ -201,4 +203,29 @@ pub fn silence_leaves_the_rule_stands()
 // Where no variable is declared, the literal check is silent only about values without variables.
 pub fn silence_holds_no_variable_stands()
     ensures { SilenceHoldsNoVariable }
+{}
+
+// The check of directive uses finds something exactly where a rule is broken, by kind and place.
+pub fn uses_find_the_broken_stands()
+    ensures { UsesFindTheBroken }
+{}
+
+// What is found of a use comes in turn, and use by use.
+pub fn found_in_turn_stands()
+    ensures { FoundInTurn }
+{}
+
+// Nothing is found of a use exactly where it is without a fault.
+pub fn silent_is_faultless_stands()
+    ensures { SilentIsFaultless }
+{}
+
+// Of uses that are the same but for their places, the same kinds are found.
+pub fn twin_uses_find_alike_stands()
+    ensures { TwinUsesFindAlike }
+{}
+
+// In each worked case the check of directive uses finds what it says, computed from the definition.
+pub fn checked_uses_stand()
+    ensures { CheckedUses }
 {}
