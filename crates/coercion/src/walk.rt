@@ -75,6 +75,33 @@ struct Step<'s> {
     in_default: bool,
 }
 
+impl Frame {
+    // The record where that is still to come.
+    fn with(self, rest: Option<Rest>) -> Frame
+        ensures { result.start ≡ self.start }
+    {
+        let inside = Inside {
+            rest,
+            ..self.inside
+        };
+        Frame { inside, ..self }
+    }
+
+    // The value at the cursor in the record, and the record where that is still to come.
+    fn value<'n>(self, name: Option<&'n [u8]>, at: usize, rest: Option<Rest>) -> (Step<'n>, Frame)
+        ensures { result.1.start ≡ self.start }
+    {
+        let step = Step {
+            name,
+            at,
+            shape: self.inside.shape,
+            field: self.field,
+            in_default: self.in_default,
+        };
+        (step, self.with(rest))
+    }
+}
+
 impl<'w, 's, S: Source, R: ScalarRule> Walk<'w, 's, S, R> {
     // The walk of the defaults that the walk comes to.
     fn of_defaults(&self) -> Walk<'w, 's, Literal<'w, 's>, R> {
@@ -353,11 +380,8 @@ impl<'w, 's, S: Source, R: ScalarRule> Walk<'w, 's, S, R> {
                     from: index + 1,
                     to: fields.to,
                 };
-                let inside = Inside {
-                    rest: Some(Rest::Fields { members, fields }),
-                    ..frame.inside
-                };
-                return Ok(Some((step, Frame { inside, ..frame })));
+                let frame = frame.with(Some(Rest::Fields { members, fields }));
+                return Ok(Some((step, frame)));
             }
         }
         Ok(None)
@@ -367,40 +391,20 @@ impl<'w, 's, S: Source, R: ScalarRule> Walk<'w, 's, S, R> {
     fn next(&self, frame: Frame) -> Result<Option<(Step<'w>, Frame)>, ValueFault>
         ensures { IfOk result (λ o. IfSome o (λ p. p.1.start ≡ frame.start)) }
     {
-        match frame.inside.rest {
-            Some(Rest::Fields { members, fields }) => self.next_field(frame, members, fields),
-            _ => Ok(self.next_value(frame)),
-        }
-    }
-
-    // The same of a record that is no input object.
-    fn next_value(&self, frame: Frame) -> Option<(Step<'w>, Frame)>
-        ensures { IfSome result (λ p. p.1.start ≡ frame.start) }
-    {
         let source = self.source;
-        let (name, at, rest) = match frame.inside.rest? {
-            Rest::Single(at) => (None, at, None),
-            Rest::Items(span) => {
-                let (at, span) = source.next(span)?;
-                (None, at, Some(Rest::Items(span)))
-            }
-            Rest::Members(span) | Rest::Fields { members: span, .. } => {
-                let (at, span) = source.next(span)?;
-                (Some(source.name(at)), at, Some(Rest::Members(span)))
-            }
-        };
-        let step = Step {
-            name,
-            at,
-            shape: frame.inside.shape,
-            field: frame.field,
-            in_default: frame.in_default,
-        };
-        let inside = Inside {
-            rest,
-            ..frame.inside
-        };
-        Some((step, Frame { inside, ..frame }))
+        match frame.inside.rest {
+            None => Ok(None),
+            Some(Rest::Single(at)) => Ok(Some(frame.value(None, at, None))),
+            Some(Rest::Items(span)) => Ok(
+                source.next(span).map(|(at, span)| frame.value(None, at, Some(Rest::Items(span)))),
+            ),
+            Some(Rest::Members(span)) => Ok(
+                source.next(span).map(|(at, span)| {
+                    frame.value(Some(source.name(at)), at, Some(Rest::Members(span)))
+                }),
+            ),
+            Some(Rest::Fields { members, fields }) => self.next_field(frame, members, fields),
+        }
     }
 
     // Goes on in a record that was the innermost open one: closes it, or opens the next one in it.
