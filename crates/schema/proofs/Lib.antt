@@ -4,3 +4,8 @@ pub mod Readings
 pub mod Seeing
 pub mod Taking
 pub mod TypeSteps
+pub mod Placing
+pub mod Entering
+pub mod Rowing
+pub mod Basing
+pub mod Eating

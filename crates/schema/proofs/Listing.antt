@@ -11,11 +11,11 @@ abbrev pub prefixed : {X : Type 0} → List X → Out (List X) → Out (List X)
 prefixed xs (got j ys) = got j (xs ++ ys)
 prefixed xs (fails f) = fails f
 
-prefixed_none : {X : Type 0} (q : Out (List X)) → q ≡ prefixed [] q
+pub prefixed_none : {X : Type 0} (q : Out (List X)) → q ≡ prefixed [] q
 prefixed_none (got j ys) = refl
 prefixed_none (fails f) = refl
 
-prefixed_more : {X : Type 0} (xs : List X) (x : X) (q : Out (List X)) → prefixed xs (before x q) ≡ prefixed (xs ++ x ∷ []) q
+pub prefixed_more : {X : Type 0} (xs : List X) (x : X) (q : Out (List X)) → prefixed xs (before x q) ≡ prefixed (xs ++ x ∷ []) q
 prefixed_more xs x (got j ys) = ap (got j) (sym (append_assoc xs (x ∷ []) ys))
 prefixed_more xs x (fails f) = refl
 
@@ -36,3 +36,7 @@ module _ {S X : Type 0} (N : ℕ → Sight → Type 0) (closes : Lexical → Boo
 
     pub sofar_done : (b e : ℕ) (x : Lexical) → N here (sees b e x) → may' && closes x ≡ true → Items N closes step A may s i (got e xs)
     sofar_done b e x n h = subst (λ ys. Items N closes step A may s i (got e ys)) (append-nil xs) (a.goes (got e []) (i_shut n h))
+
+  pub sofar_as : {may may' may'' : Bool} {s s' s'' : S} {i here here' : ℕ} {xs : List X} → Sofar may s i may' s' here xs → may' ≡ may'' → s' ≡ s'' → here ≡ here' → Sofar may s i may'' s'' here' xs
+  sofar_as {may} {may'} {may''} {s} {s'} {s''} {i} {here} {here'} {xs} a p q r =
+      subst (λ m. Sofar may s i m s'' here' xs) p (subst (λ x. Sofar may s i may' x here' xs) q (subst (λ h. Sofar may s i may' s' h xs) r a))

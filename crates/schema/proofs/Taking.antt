@@ -85,7 +85,7 @@ end_is the_end h = refl
 end_is _ h = absurd (true≢false (sym h))
 
 -- a token of the program is the wanted one
-token_same : {text : List ℕ} {l : Lexeme} (k : Lexed Graphql text l) (b : Token) → Spelled (view_of b) → token_eq.ghosts.eq l.token b ≡ true → is_token (view_of b) k.token ≡ true
+pub token_same : {text : List ℕ} {l : Lexeme} (k : Lexed Graphql text l) (b : Token) → Spelled (view_of b) → token_eq.ghosts.eq l.token b ≡ true → is_token (view_of b) k.token ≡ true
 token_same {text} {l} k (NameToken w) s e =
     let h = subst (λ v. Holds Graphql text l.start l.end v k.token) (equal_named l.token w e) k.holds in
     ap (is_word w.now) h.0 ∙ same_refl w.now
@@ -109,7 +109,7 @@ token_same k CloseBrace s e = ap (is_mark close_brace) (marked k CloseBrace clos
 token_same k Comma s e = ap (is_mark comma) (marked k Comma comma refl e)
 
 -- or it is not
-token_other : {text : List ℕ} {l : Lexeme} (k : Lexed Graphql text l) (b : Token) → Spelled (view_of b) → token_eq.ghosts.eq l.token b ≡ false → is_token (view_of b) k.token ≡ false
+pub token_other : {text : List ℕ} {l : Lexeme} (k : Lexed Graphql text l) (b : Token) → Spelled (view_of b) → token_eq.ghosts.eq l.token b ≡ false → is_token (view_of b) k.token ≡ false
 token_other {text} {l} k (NameToken w) s e = false_from_ne_true (is_word w.now k.token) (λ h. other_named l.token w e (name_there text l.start l.end (view_of l.token) k.token w.now k.holds (word_is w.now k.token h)))
 token_other {text} {l} k End s e = false_from_ne_true (ends k.token) (λ h. other_end l.token e (end_there text l.start l.end (view_of l.token) k.token k.holds (end_is k.token h)))
 token_other k (Number w j) s e = absurd s

@@ -1,5 +1,5 @@
 -- The program's locations are those of the standard.
-use Rattle.std.specs.Prelude.{◌≡◌, Some, None, Option}
+use Rattle.std.specs.Prelude.{◌≡◌, ℕ, List, Some, None, Option}
 use mathlib.Core.Option.{none, some}
 use Rattle.model.specs.Values as M
 use Rattle.schema.specs.declared.location.Location.{Location}
@@ -32,3 +32,7 @@ NamedTold none None = Unit {0}
 NamedTold none (Some l) = ⊥
 NamedTold (some k) None = ⊥
 NamedTold (some k) (Some l) = location_of l ≡ k
+
+-- a row of the table, without references
+abbrev pub row_of : denote.Ref.Bor (List ℕ) × Location → M.Name × M.Location
+row_of r = (r.0.now, location_of r.1)

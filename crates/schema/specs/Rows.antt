@@ -73,10 +73,14 @@ abbrev pub base_among : List TypeRow → ℕ → Name → Base
 base_among [] i n = Unknown
 base_among (r ∷ rs) i n = cond (same r.label.name n) (base_of r.kind i) (base_among rs (suc i) n)
 
-abbrev pub base_in : Document → Name → Base
-base_in D n =
+-- where these types are declared
+abbrev pub base_by : List TypeRow → Name → Base
+base_by rows n =
     cond (same (codes "Int") n) Int
     (cond (same (codes "Float") n) Float
     (cond (same (codes "String") n) String
     (cond (same (codes "Boolean") n) Boolean
-    (cond (same (codes "ID") n) Id (base_among (type_rows D) 0 n)))))
+    (cond (same (codes "ID") n) Id (base_among rows 0 n)))))
+
+abbrev pub base_in : Document → Name → Base
+base_in D = base_by (type_rows D)

@@ -1,16 +1,16 @@
 -- What reading a schema comes to: its definitions, or the fault that comes first.
-use Rattle.std.specs.Prelude.{◌≡◌, ℕ, suc, ◌+◌, ◌≤◌, ◌<◌, Bool, true, false, cond, List, [], ◌∷◌, ◌++◌, length, codes}
+use Rattle.std.specs.Prelude.{◌≡◌, ℕ, suc, ◌+◌, ◌||◌, ◌≤◌, ◌<◌, Bool, true, false, cond, List, [], ◌∷◌, ◌++◌, length, codes}
 use Rattle.std.proofs.Math.Option.{Option, none, some}
 use Rattle.model.specs.Values.{Name, same, Location}
 use Rattle.text.specs.declared.fault.Fault.{Fault}
 use Rattle.text.specs.declared.fault.Fault.TheVariants.{BadText}
 use Rattle.text.specs.declared.language.Language.TheVariants.{Graphql}
-use Rattle.text.specs.TokenGrammar.{Mark, at_sign, open_paren, close_paren, open_brace, close_brace, pipe, Lexical, a_mark, a_name, a_number, a_string, the_end}
+use Rattle.text.specs.TokenGrammar.{at_sign, open_paren, close_paren, open_brace, close_brace, pipe, Lexical, a_mark, a_name, a_number, a_string, the_end}
 use Rattle.reader.specs.Tokens.{Sight, sees, blind, Sights}
 use Rattle.reader.specs.Grammar.{name_of_null, name_of_true, name_of_false}
 use Rattle.reader.specs.Reading.{Out, got, fails, is_mark}
 use Rattle.schema.specs.Documents.{Label, Declared, Definition, a_scalar, an_enum, an_input, an_output, a_directive, Document, type_of, directive_of}
-use Rattle.schema.specs.Outcomes.{Then, Gives, Maps, Takes, the_mark, any_name, IfMark, Room, before, Items}
+use Rattle.schema.specs.Outcomes.{Then, Gives, Maps, Takes, the_mark, any_name, IfToken, IfMark, Room, before, Items}
 use Rattle.schema.specs.Declarations.{ReadsDeclared}
 use Rattle.schema.specs.Locations.{in_table, location_called}
 use Rattle.schema.specs.SchemaGrammar.{ends}
@@ -60,13 +60,14 @@ next n x = suc n
 
 -- ENUMS
 
--- the name of an enum value
-abbrev pub unreserved : Name → Label → Option Label
-unreserved w l = cond (same name_of_true w) none (cond (same name_of_false w) none (cond (same name_of_null w) none (some l)))
+-- what no enum value is called: true, false, null
+abbrev pub reserved : Name → Bool
+reserved w = same name_of_true w || (same name_of_false w || same name_of_null w)
 
+-- the name of an enum value
 abbrev pub value_name : ℕ → Lexical → Option Label
 value_name s (a_mark m) = none
-value_name s (a_name w) = unreserved w (record { name = w; place = s })
+value_name s (a_name w) = cond (reserved w) none (some (record { name = w; place = s }))
 value_name s (a_number k ds) = none
 value_name s (a_string cs) = none
 value_name s the_end = none
@@ -84,17 +85,17 @@ ReadsValues N n = Then (Takes N (the_mark open_brace)) (λ s. ReadsValueList N n
 abbrev pub ReadsField : (ℕ → Sight → Type 0) → (most n : ℕ) → ℕ → Out Declared → Type 0
 ReadsField N most n = Then (ReadsNew N most n any_name) (ReadsDeclared N)
 
--- some of them, up to the closing mark
-abbrev pub ReadsFieldList : (ℕ → Sight → Type 0) → Mark → (most n : ℕ) → ℕ → Out (List Declared) → Type 0
-ReadsFieldList N close most n = Items N (is_mark close) next (ReadsField N most) false n
+-- some of them, up to a token that closes them
+abbrev pub ReadsFieldList : (ℕ → Sight → Type 0) → (Lexical → Bool) → (most n : ℕ) → ℕ → Out (List Declared) → Type 0
+ReadsFieldList N close most n = Items N close next (ReadsField N most) false n
 
 -- after n fields of input objects, the fields of another
 abbrev pub ReadsFields : (ℕ → Sight → Type 0) → ℕ → ℕ → Out (List Declared) → Type 0
-ReadsFields N n = Then (Takes N (the_mark open_brace)) (λ s. ReadsFieldList N close_brace 1024 n)
+ReadsFields N n = Then (Takes N (the_mark open_brace)) (λ s. ReadsFieldList N (is_mark close_brace) 1024 n)
 
 -- after n arguments of directives, those of another
 abbrev pub ReadsArguments : (ℕ → Sight → Type 0) → ℕ → ℕ → Out (List Declared) → Type 0
-ReadsArguments N n = IfMark N open_paren (λ s. ReadsFieldList N close_paren 256 n) (Gives [])
+ReadsArguments N n = IfMark N open_paren (λ s. ReadsFieldList N (is_mark close_paren) 256 n) (Gives [])
 
 -- DIRECTIVES
 
@@ -110,13 +111,9 @@ is_word w the_end = false
 abbrev pub the_word : Name → ℕ → Lexical → Option ℕ
 the_word w s x = cond (is_word w x) (some s) none
 
--- whether the word comes, which is then passed
-abbrev pub word_comes : Name → ℕ → Sight → Out Bool
-word_comes w i (sees s e x) = cond (is_word w x) (got e true) (got i false)
-word_comes w i (blind f) = fails f
-
+-- whether `repeatable` comes
 abbrev pub ReadsRepeatable : (ℕ → Sight → Type 0) → ℕ → Out Bool → Type 0
-ReadsRepeatable N i o = (v : Sight) × N i v × (word_comes (codes "repeatable") i v ≡ o)
+ReadsRepeatable N = IfToken N (is_word (codes "repeatable")) (λ s. Gives true) (Gives false)
 
 abbrev pub a_location : ℕ → Lexical → Option Location
 a_location s (a_mark m) = none

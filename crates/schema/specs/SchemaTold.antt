@@ -1,7 +1,10 @@
 -- What the functions that read a schema promise.
-use Rattle.std.specs.Prelude.{◌≡◌, ℕ, List, [], ◌∷◌, ◌++◌, length, map, Ok, Err, Result, vec_items, vec_len}
+use Rattle.std.specs.Prelude.{◌≡◌, ℕ, ◌&&◌, Bool, true, false, Some, None, Option, List, [], ◌∷◌, ◌++◌, length, map, Ok, Err, Result, vec_items, vec_len}
+use mathlib.Core.Option.{none, some}
 use Rattle.model.specs.Values as M
 use Rattle.text.specs.declared.fault.Fault.{Fault}
+use Rattle.text.specs.TokenGrammar.{Lexical}
+use Rattle.reader.specs.Tokens.{Sight, sees}
 use Rattle.reader.specs.Reading.{got, fails}
 use Rattle.reader.specs.Told.{Blames}
 use Rattle.source.specs.declared.raw.Span.{Span}
@@ -11,10 +14,14 @@ use Rattle.schema.specs.declared.definition.TypeKind.TheVariants.{Scalar, Enum, 
 use Rattle.schema.specs.declared.definition.Field.{Field}
 use Rattle.schema.specs.declared.definition.Schema.{Schema}
 use Rattle.schema.specs.declared.tokens.Name.{Name}
+use Rattle.schema.specs.declared.tokens.Tokens.{Tokens}
+use Rattle.schema.specs.Outcomes.{Takes, any_name, shuts}
+use Rattle.schema.specs.Reading.{Onward}
+use Rattle.schema.specs.Told.{Read, Labels, sights}
 use Rattle.schema.specs.declared.types.Base.{Base}
 use Rattle.schema.specs.declared.types.Base.TheVariants.{Unknown}
 use Rattle.schema.specs.Documents.{Label, Declared, Definition, Document}
-use Rattle.schema.specs.SchemaReading.{values_of, inputs_of, arguments_of, Counts, Sort, s_scalar, s_enum, s_input, s_output, ReadsSchema}
+use Rattle.schema.specs.SchemaReading.{values_of, inputs_of, arguments_of, Counts, Sort, s_scalar, s_enum, s_input, s_output, Keyword, k_type, k_directive, ReadsSchema}
 use Rattle.schema.specs.Rows.{span, type_row, directive_row}
 use Rattle.schema.specs.Holds.{Each, label_of, type_row_of, DirectiveHeld, FieldHeld, Holds}
 
@@ -27,6 +34,24 @@ pub record Appended {A B : Type 0} (R : A → B → Type 0) (old new : List A) (
 -- until all types are read, the name of a type stands for nothing
 abbrev pub unknown : M.Name → Base
 unknown n = Unknown
+
+-- what is seen next does not close the list
+abbrev pub Open : (Lexical → Bool) → Bool → Tokens → Type 0
+Open close may t = (v : Sight) × sights t t.at v × (shuts may close v ≡ false)
+
+-- the list was closed
+pub record Closed (close : Lexical → Bool) (may : Bool) (old new : Tokens) : Type 0 where
+  pub start : ℕ
+  pub token : Lexical
+  pub seen : sights old old.at (sees start new.at token)
+  pub closes : may && close token ≡ true
+  pub onward : Onward 0 old new
+
+-- the name that the next item of a list begins with, or the list's end
+abbrev pub ItemTold : (Lexical → Bool) → Bool → Tokens → Tokens → Result (Option Name) Fault → Type 0
+ItemTold close may old new (Ok (Some n)) = Open close may old × Read 1 (λ N. Takes N any_name) Labels old new n
+ItemTold close may old new (Ok None) = Closed close may old new
+ItemTold close may old new (Err f) = Blames f (λ g. Open close may old × Takes (sights old) any_name old.at (fails g))
 
 -- the values of an enum were added, and this is where they stand
 pub record ValuesAdded (old new : List Name) (s : Span) (ls : List Label) : Type 0 where
@@ -44,6 +69,15 @@ sort_of Scalar = s_scalar
 sort_of Enum = s_enum
 sort_of Input = s_input
 sort_of Output = s_output
+
+-- the kind of type that a keyword declares
+abbrev pub KindTold : mathlib.Core.Option.Option Keyword → Option TypeKind → Type 0
+KindTold none None = Unit {0}
+KindTold none (Some k) = ⊥
+KindTold (some k_directive) None = Unit {0}
+KindTold (some k_directive) (Some k) = ⊥
+KindTold (some (k_type s)) None = ⊥
+KindTold (some (k_type s)) (Some k) = sort_of k ≡ s
 
 -- how much the tables hold
 abbrev pub counts : Schema → Counts

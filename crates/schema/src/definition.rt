@@ -1,6 +1,9 @@
 // Schemas: the types and directives that a text declares.
-ghost use Rattle.std.specs.Prelude.{map};
+ghost use Rattle.std.specs.Prelude.{◌≡◌, List, map, unwrap_or};
 ghost use Rattle.lookup.specs.First.{First};
+ghost use Rattle.schema.specs.Documents.{Document};
+ghost use Rattle.schema.specs.Holds.{Holds, type_row_of};
+ghost use Rattle.schema.specs.Rows.{TypeRow, base_among as base_among_rows, base_by, base_in, base_of};
 
 use crate::location::Locations;
 use crate::tokens::Name;
@@ -32,7 +35,9 @@ pub enum TypeKind {
 
 impl TypeKind {
     // What the name of a type of this kind stands for.
-    fn base(self, index: usize) -> Base {
+    fn base(self, index: usize) -> Base
+        ensures { result ≡ base_of self index }
+    {
         match self {
             TypeKind::Scalar => Base::Custom(index),
             TypeKind::Enum => Base::Enum(index),
@@ -118,7 +123,9 @@ pub fn between<R>(records: &[R], span: Span) -> &[R] {
 }
 
 // What a name stands for without any schema.
-pub fn built_in(name: &[u8]) -> Option<Base> {
+pub fn built_in(name: &[u8]) -> Option<Base>
+    ensures { (rows : List TypeRow) → base_by rows name.now ≡ unwrap_or result (base_among_rows rows 0 name.now) }
+{
     match name {
         b"Int" => Some(Base::Int),
         b"Float" => Some(Base::Float),
@@ -130,21 +137,23 @@ pub fn built_in(name: &[u8]) -> Option<Base> {
 }
 
 // What a type's name stands for, where these types are declared.
-pub(crate) fn base_among(types: &[TypeDef<'_>], name: &[u8]) -> Base {
-    built_in(name)
-        .or_else(|| declared(types, name))
-        .unwrap_or(Base::Unknown)
-}
-
-// What the name stands for among the declared types.
-fn declared(types: &[TypeDef<'_>], name: &[u8]) -> Option<Base> {
-    let index = Table::new(types).find(name)?;
-    Some(types[index].kind.base(index))
+pub(crate) fn base_among(types: &[TypeDef<'_>], name: &[u8]) -> Base
+    ensures { result ≡ base_by (map type_row_of types.now) name.now }
+{
+    if let Some(base) = built_in(name) {
+        return base;
+    }
+    match Table::new(types).find(name) {
+        Some(index) => types[index].kind.base(index),
+        None => Base::Unknown,
+    }
 }
 
 impl<'a> Schema<'a> {
     // What a type's name stands for.
-    pub fn base(&self, name: &[u8]) -> Base {
+    pub fn base(&self, name: &[u8]) -> Base
+        ensures { (D : Document) → Holds self.now D → result ≡ base_in D name.now }
+    {
         base_among(&self.types, name)
     }
 

@@ -1,7 +1,16 @@
 // The reading of schema texts.
-ghost use Rattle.std.specs.Prelude.{◌≡◌, ◌≤◌, IfOk, vec_len};
+ghost use Rattle.std.specs.Prelude.{◌≡◌, ◌≤◌, List, map, IfOk, vec_len};
 ghost use Rattle.schema.specs.Counts.{Few};
+ghost use Rattle.text.specs.TokenFound.{view_of};
+ghost use Rattle.source.specs.Table.{Table, table_of};
+ghost use Rattle.schema.specs.Documents.{Label, Declared, Document};
+ghost use Rattle.schema.specs.Holds.{Each, FieldHeld, HeldBy, Holds, LocationsHeld, type_row_of};
+ghost use Rattle.schema.specs.Locations.{in_table};
+ghost use Rattle.schema.specs.Rows.{base_by};
 ghost use Rattle.schema.specs.Reading.{Onward};
+ghost use Rattle.schema.specs.SchemaReading.{keywords, reserved, ReadsAllLocations, ReadsContents, ReadsDirective, ReadsFieldList, ReadsTypeDefinition, ReadsValueList};
+ghost use Rattle.schema.specs.SchemaTold.{Added, ContentsAdded, FieldsAdded, ItemTold, KindTold, SchemaTold, ValuesAdded, counts, sort_of, unknown};
+ghost use Rattle.schema.specs.Told.{Told, Spelled, is_token};
 
 use crate::declaration;
 use crate::declaration::Declaration;
@@ -52,7 +61,9 @@ pub fn read_schema(heap: Global, text: &[u8]) -> Result<Schema<'_>, Fault>
 }
 
 // What kind of type a keyword declares.
-fn declares(keyword: &[u8]) -> Option<TypeKind> {
+fn declares(keyword: &[u8]) -> Option<TypeKind>
+    ensures { KindTold (in_table keywords keyword.now) result }
+{
     match keyword {
         b"scalar" => Some(TypeKind::Scalar),
         b"enum" => Some(TypeKind::Enum),
@@ -113,33 +124,53 @@ fn contents<'a>(
     }
 }
 
-// Not one function with `fields`: they differ in names, limits and what may stand there.
+// The name that the next item of a list begins with; none where the list closes, which it may do if `may_close`.
+pub(crate) fn item_name<'a>(
+    tokens: &mut Tokens<'a>,
+    close: Token<'_>,
+    may_close: bool,
+) -> Result<Option<Name<'a>>, Fault>
+    requires { Spelled (view_of close) }
+    ensures { ItemTold (is_token (view_of close.entry)) may_close tokens.old tokens.new result }
+{
+    let Lexeme { token, start, .. } = tokens.next()?;
+    if may_close && token == close {
+        return Ok(None);
+    }
+    let Token::Name(name) = token else {
+        return Err(Fault::BadText(start));
+    };
+    Ok(Some(Name { name, place: start }))
+}
+
+// Whether an enum value may not have the name.
+fn is_reserved(name: &[u8]) -> bool
+    ensures { result ≡ reserved name.now }
+{
+    matches!(name, b"true" | b"false" | b"null")
+}
+
 // The values of an enum before the `}`, at least one: where they stand.
 fn enum_values<'a>(tokens: &mut Tokens<'a>, values: &mut Vec<EnumValue<'a>>) -> Result<Span, Fault>
     requires { vec_len values.old ≤ 1024 }
+    ensures told { Told 0 (λ N. ReadsValueList N (vec_len values.old)) (ValuesAdded values.old.items values.new.items) tokens.old tokens.new result }
     ensures onward { IfOk result (λ _. Onward 0 tokens.old tokens.new) }
     ensures few { vec_len values.new ≤ 1024 }
 {
     let from = values.len();
-    loop {
-        let Lexeme { token, start, .. } = tokens.next()?;
-        match token {
-            Token::Name(b"true" | b"false" | b"null") => return Err(Fault::BadText(start)),
-            Token::Name(name) => {
-                if values.len() >= MOST_VALUES {
-                    return Err(Fault::NoSpace(start));
-                }
-                values.push(EnumValue { name, place: start })?;
-            }
-            Token::CloseBrace if values.len() != from => {
-                return Ok(Span {
-                    from,
-                    to: values.len(),
-                });
-            }
-            _ => return Err(Fault::BadText(start)),
+    while let Some(value) = item_name(tokens, Token::CloseBrace, values.len() != from)? {
+        if is_reserved(value.name) {
+            return Err(Fault::BadText(value.place));
         }
+        if values.len() >= MOST_VALUES {
+            return Err(Fault::NoSpace(value.place));
+        }
+        values.push(value)?;
     }
+    Ok(Span {
+        from,
+        to: values.len(),
+    })
 }
 
 // The fields of an input object, or the arguments of a directive, before the closing mark, at least one: where they stand.
@@ -150,35 +181,29 @@ fn fields<'a>(
     table: &mut Vec<Field<'a>>,
     nodes: &mut Nodes,
 ) -> Result<Span, Fault>
-    requires { vec_len table.old ≤ most }
+    requires closes { Spelled (view_of close) }
+    requires few { vec_len table.old ≤ most }
+    ensures told { Told 0 (λ N. ReadsFieldList N (is_token (view_of close.entry)) most (vec_len table.old)) (FieldsAdded (table_of tokens.old.text.now nodes.old) (table_of tokens.old.text.now nodes.new) table.old.items table.new.items) tokens.old tokens.new result }
     ensures onward { IfOk result (λ _. Onward 0 tokens.old tokens.new) }
     ensures few { vec_len table.new ≤ most }
 {
     let from = table.len();
-    loop {
-        let Lexeme { token, start, .. } = tokens.next()?;
-        match token {
-            Token::Name(name) => {
-                if table.len() >= most {
-                    return Err(Fault::NoSpace(start));
-                }
-                let Declaration { ty, default } = declaration::declared(tokens, nodes)?;
-                table.push(Field {
-                    name,
-                    place: start,
-                    ty: ty.of(Base::Unknown),
-                    default,
-                })?;
-            }
-            token if token == close && table.len() != from => {
-                return Ok(Span {
-                    from,
-                    to: table.len(),
-                });
-            }
-            _ => return Err(Fault::BadText(start)),
+    while let Some(Name { name, place }) = item_name(tokens, close, table.len() != from)? {
+        if table.len() >= most {
+            return Err(Fault::NoSpace(place));
         }
+        let Declaration { ty, default } = declaration::declared(tokens, nodes)?;
+        table.push(Field {
+            name,
+            place,
+            ty: ty.of(Base::Unknown),
+            default,
+        })?;
     }
+    Ok(Span {
+        from,
+        to: table.len(),
+    })
 }
 
 // The definition of a directive, whose keyword was read.
@@ -217,13 +242,16 @@ fn directive<'a>(tokens: &mut Tokens<'a>, schema: &mut Schema<'a>) -> Result<(),
 
 // The locations that come next, at least one, with a `|` between them; one may stand before the first.
 fn locations(tokens: &mut Tokens<'_>) -> Result<Locations, Fault>
-    ensures { IfOk result (λ _. Onward 1 tokens.old tokens.new) }
+    ensures told { Told 1 (λ N. ReadsAllLocations N) LocationsHeld tokens.old tokens.new result }
+    ensures onward { IfOk result (λ _. Onward 1 tokens.old tokens.new) }
 {
     let mut locations = Locations::NONE;
     tokens.eat(Token::Pipe)?;
     loop {
         let Name { name, place } = tokens.name()?;
-        let location = Location::named(name).ok_or(Fault::BadText(place))?;
+        let Some(location) = Location::named(name) else {
+            return Err(Fault::BadText(place));
+        };
         locations = locations.with(location);
         if tokens.eat(Token::Pipe)?.is_none() {
             return Ok(locations);

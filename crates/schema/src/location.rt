@@ -1,8 +1,9 @@
 // Where directives may stand (section 3.13).
-ghost use Rattle.std.specs.Prelude.{◌≡◌, List};
+ghost use Rattle.std.specs.Prelude.{◌≡◌, ◌∷◌, ◌++◌, [], List, map, option_map, find};
+ghost use Rattle.std.specs.Str.{bytes_eq};
 ghost use Rattle.model.specs.Values.{Location as Place};
-ghost use Rattle.schema.specs.Locations.{location_in, location_number};
-ghost use Rattle.schema.specs.LocationTold.{location_of};
+ghost use Rattle.schema.specs.Locations.{in_table, location_called, location_in as listed, location_number};
+ghost use Rattle.schema.specs.LocationTold.{location_of, row_of, NamedTold};
 ghost use Rattle.schema.specs.Holds.{LocationsHeld};
 
 // DirectiveLocation of the standard.
@@ -56,12 +57,34 @@ pub const LOCATIONS: [(&[u8], Location); LOCATION_COUNT] = [
 
 impl Location {
     // The location of that name.
-    pub fn named(name: &[u8]) -> Option<Location> {
-        LOCATIONS
-            .iter()
-            .find(|(word, _)| *word == name)
-            .map(|(_, location)| *location)
+    pub fn named(name: &[u8]) -> Option<Location>
+        ensures { NamedTold (location_called name.now) result }
+    {
+        location_in(&LOCATIONS, name)
     }
+
+    // Its place in the table of locations.
+    fn number(self) -> usize
+        ensures { result ≡ location_number (location_of self) }
+    {
+        self as usize
+    }
+}
+
+// The location of that name among the rows of a table.
+fn location_in(rows: &[(&[u8], Location)], name: &[u8]) -> Option<Location>
+    ensures { NamedTold (in_table (map row_of rows.now) name.now) result }
+{
+    first(rows, name)
+}
+
+// A function of its own, since what `find` finds is not told to a proof past its closures.
+fn first(rows: &[(&[u8], Location)], name: &[u8]) -> Option<Location>
+    ensures { result ≡ option_map (λ r. r.1) (find (λ r. bytes_eq r.0.now name.now) rows.now) }
+{
+    rows.iter()
+        .find(|(word, _)| *word == name)
+        .map(|(_, location)| *location)
 }
 
 // A set of locations.
@@ -77,15 +100,17 @@ impl Locations {
     };
 
     pub fn contains(self, location: Location) -> bool
-        ensures { (ls : List Place) → LocationsHeld self ls → result ≡ location_in ls (location_number (location_of location)) }
+        ensures { (ls : List Place) → LocationsHeld self ls → result ≡ listed ls (location_number (location_of location)) }
     {
-        self.flags[location as usize]
+        self.flags[location.number()]
     }
 
     // The set and one location more.
-    pub(crate) fn with(self, location: Location) -> Locations {
+    pub(crate) fn with(self, location: Location) -> Locations
+        ensures { (ls : List Place) → LocationsHeld self ls → LocationsHeld result (ls ++ location_of location ∷ []) }
+    {
         let mut flags = self.flags;
-        flags[location as usize] = true;
+        flags[location.number()] = true;
         Locations { flags }
     }
 }
