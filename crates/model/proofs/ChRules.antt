@@ -73,7 +73,7 @@ names_told P none k = tt
 names_told P (some p) k = (k p refl, tt)
 
 -- required fields
-pub is_lacking : (m : Option Raw) → is_value m ≡ false → (m ≡ none) ⊎ ((at : ℕ) × (m ≡ some (null at)))
+is_lacking : (m : Option Raw) → is_value m ≡ false → (m ≡ none) ⊎ ((at : ℕ) × (m ≡ some (null at)))
 is_lacking none e = inl refl
 is_lacking (some (null at)) e = inr (at, refl)
 is_lacking (some x) e = absurd (both_ways true e refl)

@@ -1,15 +1,16 @@
 -- Of a use of a directive, a finding is told exactly where the rule of its kind is broken.
-use Rattle.std.proofs.Common.{◌≡◌, ℕ, Bool, true, false, cond, not, ◌&&◌, List, [], ◌∷◌, inl, inr, refl, sym, ap, subst, get_or}
+use Rattle.std.proofs.Common.{◌≡◌, ℕ, Bool, true, false, cond, not, ◌&&◌, List, [], ◌∷◌, ◌++◌, inl, refl, sym, ap, subst, get_or}
 use mathlib.Core.Option.{Option, none, some}
 use Rattle.std.proofs.lemmas.Bool.{both_ways, eqb-true, eq-eqb, false_from_ne_true}
-use Rattle.model.specs.Values.{nullable, Field, Location, at_query, at_mutation, at_subscription, at_field, at_fragment_definition, at_fragment_spread, at_inline_fragment, at_variable_definition, at_schema, at_scalar, at_object, at_field_definition, at_argument_definition, at_interface, at_union, at_enum, at_enum_value, at_input_object, at_input_field_definition, Directive, Schema, Argument, Use, Variable, has}
+use Rattle.model.specs.Values.{Name, Raw, null, nullable, Field, Location, at_query, at_mutation, at_subscription, at_field, at_fragment_definition, at_fragment_spread, at_inline_fragment, at_variable_definition, at_schema, at_scalar, at_object, at_field_definition, at_argument_definition, at_interface, at_union, at_enum, at_enum_value, at_input_object, at_input_field_definition, Directive, Schema, Argument, Use, Variable, same, has}
 use Rattle.model.specs.Checking.{FindingKind, unique_argument, unique_directive, undefined_directive, unsupported_location, undefined_argument, required_argument, Finding, In, is_value, has_default}
 use Rattle.model.specs.Rules.{Among, the_first, a_later, Broken}
 use Rattle.model.specs.Uses.{use_names, argument_names, directive_named, argument_named, value_given, location_number, located, of_each, of_each_after, found_if, check_repeated, check_value, check_argument, is_required, check_given, check_declared, check_directive, check_use, check_uses}
-use Rattle.model.specs.UseRules.{Withheld, UseBreaks, argument_is_defined, argument_is_unique, required_argument_is_given, directive_is_defined, directive_is_in_valid_location, directive_is_unique_per_location, value_is_right, UsesBreak, by_use}
+use Rattle.model.specs.UseRules.{Withheld, not_given, given_as_null, UseBreaks, argument_is_defined, argument_is_unique, required_argument_is_given, directive_is_defined, directive_is_in_valid_location, directive_is_unique_per_location, value_is_right, UsesBreak, by_use}
 use Rattle.model.specs.UseLaws.{UsesFindTheBroken}
+use Rattle.model.proofs.CoNames.{same_refl, same_true, has_none}
 use Rattle.model.proofs.ChFound.{Each, each_append, each_in, in_left, in_right}
-use Rattle.model.proofs.ChRules.{Told, finding, told, broken_in, is_lacking, is_none}
+use Rattle.model.proofs.ChRules.{Told, finding, told, broken_in, is_none}
 use Rattle.model.proofs.ChEach.{each_of, in_each, each_after, in_after}
 
 -- LOCATIONS
@@ -60,6 +61,47 @@ pub means_located : {l : Location} {ks : List Location} → Among l ks → locat
 means_located {l} the_first = rw (eq-eqb (location_number l) (location_number l) refl) refl
 means_located (a_later i) = later_located _ _ (means_located i)
 
+-- THE VALUE GIVEN FIRST
+
+-- the value of a name, if any, is that of the first argument of this name
+data GivenFirst (n : Name) (xs : List Argument) (x : Raw) : Type 0 where
+  given_first : (a : Argument) (earlier later : List Argument) → xs ≡ earlier ++ (a ∷ later) → has (argument_names earlier) n ≡ false → a.name ≡ n → a.value ≡ x → GivenFirst n xs x
+
+abbrev First : Name → List Argument → Option Raw → Type 0
+First n xs none = has (argument_names xs) n ≡ false
+First n xs (some x) = GivenFirst n xs x
+
+first_later : (a : Argument) (n : Name) (xs : List Argument) → same a.name n ≡ false → (o : Option Raw) → First n xs o → First n (a ∷ xs) o
+first_later a n xs e none h = rw e h
+first_later a n xs e (some x) (given_first b earlier later q h i v) = given_first b (a ∷ earlier) later (ap (λ zs. a ∷ zs) q) (rw e h) i v
+
+first_head : (a : Argument) (n : Name) (xs : List Argument) (b : Bool) → same a.name n ≡ b → First n xs (value_given xs n) → First n (a ∷ xs) (cond b (some a.value) (value_given xs n))
+first_head a n xs true e h = given_first a [] xs refl refl (same_true a.name n e) refl
+first_head a n xs false e h = first_later a n xs e (value_given xs n) h
+
+first : (xs : List Argument) (n : Name) → First n xs (value_given xs n)
+first [] n = refl
+first (a ∷ xs) n = first_head a n xs (same a.name n) refl (first xs n)
+
+no_value : (xs : List Argument) (n : Name) → has (argument_names xs) n ≡ false → value_given xs n ≡ none
+no_value [] n h = refl
+no_value (a ∷ xs) n h = let w = has_none a.name n (argument_names xs) h in rw w.0 (no_value xs n w.1)
+
+value_first : (e : List Argument) (a : Argument) (r : List Argument) → has (argument_names e) a.name ≡ false → value_given (e ++ (a ∷ r)) a.name ≡ some a.value
+value_first [] a r h = rw (same_refl a.name) refl
+value_first (y ∷ e) a r h = let w = has_none y.name a.name (argument_names e) h in rw w.0 (value_first e a r w.1)
+
+lacking_is_withheld : (n : Name) (xs : List Argument) (o : Option Raw) → First n xs o → is_value o ≡ false → Withheld n xs
+lacking_is_withheld n xs none h k = not_given h
+lacking_is_withheld n xs (some (null at)) (given_first a e r q h i v) k = given_as_null a e r at q h i v
+lacking_is_withheld n xs (some x) h k = absurd (both_ways true k refl)
+
+withheld_is_lacking : (n : Name) (xs : List Argument) → Withheld n xs → is_value (value_given xs n) ≡ false
+withheld_is_lacking n xs (not_given h) = rw (no_value xs n h) refl
+withheld_is_lacking n xs (given_as_null a e r at q h i v) =
+    let w = value_first e a r (subst (λ (m : Name). has (argument_names e) m ≡ false) (sym i) h) in
+    subst (λ zs. is_value (value_given zs n) ≡ false) (sym q) (subst (λ (m : Name). is_value (value_given (e ++ (a ∷ r)) m) ≡ false) i (rw (w, v) refl))
+
 -- WHAT IS TOLD IS BROKEN
 
 pub each_if : (P : Told) (b : Bool) (k : FindingKind) (p : ℕ) → (b ≡ true → P k p) → Each P (found_if b k p)
@@ -103,7 +145,7 @@ module _ (S : Schema) (vs : List Variable) (before : List Use) (l : Location) (u
       (each_of P (check_given u) D.arguments
       (λ f i. each_if P (is_required f && not (is_value (value_given u.arguments f.name))) required_argument u.place
       (λ e. let w = three_parts (nullable f.ty) (has_default f) (is_value (value_given u.arguments f.name)) e in
-      c required_argument u.place (required_argument_is_given D f q i w.0 (is_none f.dflt w.1) (is_lacking (value_given u.arguments f.name) w.2) refl))))))
+      c required_argument u.place (required_argument_is_given D f q i w.0 (is_none f.dflt w.1) (lacking_is_withheld f.name u.arguments (value_given u.arguments f.name) (first u.arguments f.name) w.2) refl))))))
 
   directive_told : (P : Told) → AllTold P → (o : Option Directive) → directive_named S.directives u.name ≡ o → Each P (check_directive S vs before l u o)
   directive_told P c none q = (c undefined_directive u.place (directive_is_defined q refl), tt)
@@ -147,12 +189,8 @@ module _ (S : Schema) (vs : List Variable) (before : List Use) (l : Location) (u
       (in_right z (found_if (not (located D.locations l)) unsupported_location u.place) _
       (in_right z (of_each (check_argument S vs D) u.arguments) _ i))
 
-  withheld_value : (f : Field) → Withheld u.arguments f → is_value (value_given u.arguments f.name) ≡ false
-  withheld_value f (inl e) = rw e refl
-  withheld_value f (inr h) = rw h.1 refl
-
-  given_in : (f : Field) → nullable f.ty ≡ false → f.dflt ≡ none → Withheld u.arguments f → In (finding required_argument u.place) (check_given u f)
-  given_in f n h w = rw (n, h, withheld_value f w) (inl refl)
+  given_in : (f : Field) → nullable f.ty ≡ false → f.dflt ≡ none → Withheld f.name u.arguments → In (finding required_argument u.place) (check_given u f)
+  given_in f n h w = rw (n, h, withheld_is_lacking f.name u.arguments w) (inl refl)
 
   breaks_told : (p : ℕ) {k : FindingKind} → UseBreaks S vs before l u p k → In (finding k p) (check_use S vs before l u)
   breaks_told p (argument_is_defined D a q i e at) =

@@ -1,14 +1,15 @@
 -- The rules for uses of directives, each by itself: where a use breaks it (sections 5.4.1, 5.4.2, 5.4.2.1, 5.7.1, 5.7.2 and 5.7.3).
-use Rattle.std.specs.Prelude.{◌≡◌, ℕ, true, false, ◌⊎◌, List, ◌∷◌, ◌++◌}
+use Rattle.std.specs.Prelude.{◌≡◌, ℕ, true, false, List, ◌∷◌, ◌++◌}
 use Rattle.std.proofs.Math.Option.{none, some}
-use Rattle.model.specs.Values.{null, nullable, Field, Location, Directive, Schema, Argument, Use, Variable, has}
+use Rattle.model.specs.Values.{Name, null, nullable, Field, Location, Directive, Schema, Argument, Use, Variable, has}
 use Rattle.model.specs.Checking.{FindingKind, unique_argument, unique_directive, undefined_directive, unsupported_location, undefined_argument, required_argument, has_default}
 use Rattle.model.specs.Rules.{Among, Broken}
-use Rattle.model.specs.Uses.{use_names, argument_names, directive_named, argument_named, value_given}
+use Rattle.model.specs.Uses.{use_names, argument_names, directive_named, argument_named}
 
--- an argument is not given, or it is given as null
-abbrev pub Withheld : List Argument → Field → Type 0
-Withheld xs f = (value_given xs f.name ≡ none) ⊎ ((at : ℕ) × (value_given xs f.name ≡ some (null at)))
+-- an argument of a name is not given, or the first that is given is null
+pub data Withheld (n : Name) (xs : List Argument) : Type 0 where
+  not_given : has (argument_names xs) n ≡ false → Withheld n xs
+  given_as_null : (a : Argument) (earlier later : List Argument) (at : ℕ) → xs ≡ earlier ++ (a ∷ later) → has (argument_names earlier) n ≡ false → a.name ≡ n → a.value ≡ null at → Withheld n xs
 
 -- a use, after those before it at the location, breaks the rule of a kind; p is the place told of it
 pub data UseBreaks (S : Schema) (vs : List Variable) (before : List Use) (l : Location) (u : Use) (p : ℕ) : FindingKind → Type 0 where
@@ -17,7 +18,7 @@ pub data UseBreaks (S : Schema) (vs : List Variable) (before : List Use) (l : Lo
   -- 5.4.2: there is one argument of a name; each after the first is told
   argument_is_unique : (a : Argument) (earlier later : List Argument) → u.arguments ≡ earlier ++ (a ∷ later) → has (argument_names earlier) a.name ≡ true → a.place ≡ p → UseBreaks S vs before l u p unique_argument
   -- 5.4.2.1: an argument that is non-null and without a default is given, and not as null
-  required_argument_is_given : (D : Directive) (f : Field) → directive_named S.directives u.name ≡ some D → Among f D.arguments → nullable f.ty ≡ false → f.dflt ≡ none → Withheld u.arguments f → u.place ≡ p → UseBreaks S vs before l u p required_argument
+  required_argument_is_given : (D : Directive) (f : Field) → directive_named S.directives u.name ≡ some D → Among f D.arguments → nullable f.ty ≡ false → f.dflt ≡ none → Withheld f.name u.arguments → u.place ≡ p → UseBreaks S vs before l u p required_argument
   -- 5.7.1: the directive is defined
   directive_is_defined : directive_named S.directives u.name ≡ none → u.place ≡ p → UseBreaks S vs before l u p undefined_directive
   -- 5.7.2: the location is one of the directive's
