@@ -1,5 +1,5 @@
 -- What a node's content says of the value.
-use Rattle.std.specs.Prelude.{Bool, false, ℤ, pos, Some, None, Option}
+use Rattle.std.specs.Prelude.{Bool, true, false, ℤ, pos, Some, None, Option}
 use Rattle.names.specs.declared.part.Part.{Part}
 use Rattle.source.specs.declared.raw.Kind.{Kind}
 use Rattle.source.specs.declared.raw.Kind.TheVariants.{Null as NullKind, Boolean as BooleanKind, Whole as WholeKind, Decimal as DecimalKind, String as StringKind, Enum as EnumKind, Variable as VariableKind, List as ListKind, Object as ObjectKind}
@@ -16,6 +16,17 @@ kind_in (Enum p) = EnumKind
 kind_in (Variable p) = VariableKind
 kind_in List = ListKind
 kind_in Object = ObjectKind
+
+abbrev pub variable_in : Content → Bool
+variable_in Null = false
+variable_in (Boolean b) = false
+variable_in (Whole p) = false
+variable_in (Decimal s p) = false
+variable_in (String p) = false
+variable_in (Enum p) = false
+variable_in (Variable p) = true
+variable_in List = false
+variable_in Object = false
 
 -- of a boolean, whether it is true
 abbrev pub flag_in : Content → Bool

@@ -5,3 +5,4 @@ pub mod Spans
 pub mod Nodes
 pub mod Table
 pub mod OneTree
+pub mod Variables

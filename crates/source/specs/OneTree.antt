@@ -24,7 +24,7 @@ forward_mems T i j end h = omega (arith, h)
 forward_mems T i j (mem n x ms) h = omega (arith, (head_of T i x h.1).some, forward_mems T (past_of T.nodes i) j ms h.2)
 
 -- no scalar is of the kind of another value
-scalar_apart : (s : Scalar) → (scalar_kind s ≢ Null) × (scalar_kind s ≢ Variable) × (scalar_kind s ≢ ListKind) × (scalar_kind s ≢ Object)
+pub scalar_apart : (s : Scalar) → (scalar_kind s ≢ Null) × (scalar_kind s ≢ Variable) × (scalar_kind s ≢ ListKind) × (scalar_kind s ≢ Object)
 scalar_apart (boolean b) = ((λ e. cc), (λ e. cc), (λ e. cc), (λ e. cc))
 scalar_apart (whole s) = ((λ e. cc), (λ e. cc), (λ e. cc), (λ e. cc))
 scalar_apart (decimal d) = ((λ e. cc), (λ e. cc), (λ e. cc), (λ e. cc))

@@ -1,5 +1,12 @@
 // A tree of raw values over the text that it was read from.
-use crate::nodes::{Content, Nodes};
+ghost use Rattle.std.specs.Prelude.{◌≡◌, MatchBool};
+ghost use Rattle.model.specs.Values.{Raw};
+ghost use Rattle.model.specs.Checking.{VariableFree};
+ghost use Rattle.std.specs.List.{list_any};
+ghost use Rattle.source.specs.Table.{tree_table, Stands};
+ghost use Rattle.source.specs.Variables.{HoldsVariable, is_variable};
+
+use crate::nodes::{Content, Node, Nodes};
 use crate::raw::Source;
 use crate::value::Literal;
 use names::part::Part;
@@ -10,15 +17,27 @@ pub struct Tree<'a> {
     pub nodes: Nodes,
 }
 
+// Whether one of the nodes is a variable's.
+fn any_variable(nodes: &[Node]) -> bool
+    ensures { result ≡ list_any is_variable nodes.now }
+{
+    nodes
+        .iter()
+        .any(|node| matches!(node.content, Content::Variable(_)))
+}
+
 impl<'a> Tree<'a> {
     // Whether the value is a variable or holds one.
-    pub fn holds_variable(&self, at: usize) -> bool {
+    pub fn holds_variable(&self, at: usize) -> bool
+        ensures { (t : Raw) → Stands (tree_table self.now) at t → MatchBool result (HoldsVariable t) (VariableFree t) }
+    {
         let size = self.nodes.get(at).size;
-        // A slice: `skip` would step over each node before `at`.
-        let from = self.nodes.list.get(at..).unwrap_or_default();
-        from.iter()
-            .take(size)
-            .any(|node| matches!(node.content, Content::Variable(_)))
+        any_variable(
+            self.nodes
+                .list
+                .get(at..at.saturating_add(size))
+                .unwrap_or_default(),
+        )
     }
 
     // The place of the object's first member whose name an earlier member has.
