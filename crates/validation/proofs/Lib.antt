@@ -1,3 +1,4 @@
 pub mod Notes
 pub mod Least
 pub mod BaseStands
+pub mod CycleRows

@@ -2,8 +2,8 @@
 use Rattle.std.specs.Prelude.{◌≡◌, ℕ, ◌≤◌, ◌⊎◌, true, List, [], ◌∷◌, Some, None, Option, codes}
 use Rattle.model.specs.Values.{Name, has, output_d, TypeDef, find}
 use Rattle.model.specs.Checking.{inner}
-use Rattle.model.specs.Cycles.{Among}
-use Rattle.schema.specs.Documents.{Declared, Document, types_in, schema_of}
+use Rattle.model.specs.Cycles.{Among, OnCycle}
+use Rattle.schema.specs.Documents.{Label, Declared, Document, an_input, field_of, types_in, schema_of}
 use Rattle.schema.specs.SchemaReading.{inputs_in, arguments_in}
 
 -- the least place where a fault lies, or none where none lies
@@ -33,3 +33,9 @@ pub data UnknownAt (D : Document) (p : ℕ) : Type 0 where
 -- at p a type's name is written that is declared, as no input type
 pub data NotInputAt (D : Document) (p : ℕ) : Type 0 where
   not_input_at : {d : Declared} → Input D d → Known D (inner d.typed.ty) → find (schema_of D) (inner d.typed.ty) ≡ output_d → d.typed.place ≡ p → NotInputAt D p
+
+-- DEFAULT CYCLES (section 3.10)
+
+-- at p an input field is named that leads back to itself by the coercion of its default
+pub data CycleAt (D : Document) (p : ℕ) : Type 0 where
+  cycle_at : {l : Label} {ds : List Declared} {d : Declared} → Among (an_input l ds) D → Among d ds → OnCycle (schema_of D) (record { owner = l.name; field = field_of d }) → d.label.place ≡ p → CycleAt D p

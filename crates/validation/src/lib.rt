@@ -3,6 +3,7 @@
 
 ghost use Rattle.std.specs.Prelude.{◌≤◌, IfOk, vec_len};
 
+pub mod cycle;
 pub mod defaults;
 pub mod diagnostic;
 pub mod diagnostics;
