@@ -14,7 +14,14 @@ use Rattle.stored.specs.Laws.{Within}
 use Rattle.stored.specs.OneTree.{one_held}
 use Rattle.stored.proofs.CuOne.{shown-shows, root_shows, root_held, sheet_within}
 use Rattle.agreement.specs.Inputs.{Input, json_text, literal_text, sheet_value, sheet_bytes, form_of, Says, Agree, Request, CallsOf, c_load, c_supply, c_withdraw, c_none, c_next, AgreeAll, a_none, a_load, a_supply, a_withdraw}
-use Rattle.agreement.specs.Laws.{SourcesAgree, ShownAgree, EncodedStands}
+use Rattle.agreement.specs.Laws.{SameOutcome, SourcesAgree, ShownAgree, EncodedStands}
+
+pub twins_agree : (x y : Raw) → Twin x y → SameOutcome x y
+twins_agree x y w = record {
+  coerced = λ k S R p h t. places_do_not_matter.0 k S R p h x y w t;
+  walked = λ k S R cap p h t depth used lead. places_do_not_matter.2 k S R cap p h x y w t depth used lead;
+  loaded = λ k S R cap p vs st. places_do_not_matter.3 k S R cap vs st (load p x) (load p y) (w_load refl w);
+}
 
 one_said : (a : Input) (x y : Raw) → Says a x → Says a y → x ≡ y
 one_said (json_text text) x y s u = writes_once Json text x y s u
@@ -34,8 +41,7 @@ asked_twins (a_withdraw gs) (c_next c_withdraw ss) (c_next c_withdraw us) = w_ne
 pub sources_agree_lem : SourcesAgree
 sources_agree_lem = record {
   said = one_said;
-  coerced = λ a b x y s u w k S R p h t. places_do_not_matter.0 k S R p h x y w t;
-  walked = λ a b x y s u w k S R cap p h t depth used lead. places_do_not_matter.2 k S R cap p h x y w t depth used lead;
+  outcome = λ a b x y s u w. twins_agree x y w;
   loaded = λ a b g x y s u k S R cap vs st. places_do_not_matter.3 k S R cap vs st (load (form_of a) x) (load (form_of b) y) (w_load g.forms (agree_twins a b g x y s u));
   asked = λ qs rs g cs es s u k S R cap vs. places_do_not_matter.4 k S R cap vs cs es (asked_twins g s u);
 }

@@ -15,15 +15,19 @@ use Rattle.stored.specs.Cursors.{Held}
 use Rattle.stored.specs.Laws.{Within}
 use Rattle.agreement.specs.Inputs.{Input, json_text, sheet_bytes, form_of, Says, Agree, Request, CallsOf, AgreeAll}
 
--- an input says one value at most; inputs that say the same but for places have the same outcome but for the places of refusals:
--- coerced at a type and walked within the limits, in any one form; loaded, where their forms are the same; and over runs of requests
+-- two values have the same outcome but for the places of refusals: coerced at a type, walked within the limits, and loaded, in any one form
+pub record SameOutcome (x y : Raw) : Type 0 where
+  pub coerced : (k : ℕ) (S : Schema) (R : Rule) (p : Form) (h : Here) (t : Ty) → SameOut (coerce_at k S R p h x t) (coerce_at k S R p h y t)
+  pub walked : (k : ℕ) (S : Schema) (R : Rule) (cap : ℕ) (p : Form) (h : Here) (t : Ty) (depth used lead : ℕ)
+      → SameOut (walk_at k S R cap p h x t depth used lead) (walk_at k S R cap p h y t depth used lead)
+  pub loaded : (k : ℕ) (S : Schema) (R : Rule) (cap : ℕ) (p : Form) (vs : List Variable) (st : State)
+      → SameOut (slots_given (answer k S R cap vs st (load p x))) (slots_given (answer k S R cap vs st (load p y)))
+
+-- an input says one value at most; inputs that say the same but for places have the same outcome in one form,
+-- so where their forms are the same they leave the same slots, loaded and over runs of requests
 pub record SourcesAgree : Type 0 where
   pub said : (a : Input) (x y : Raw) → Says a x → Says a y → x ≡ y
-  pub coerced : (a b : Input) (x y : Raw) → Says a x → Says b y → Twin x y
-      → (k : ℕ) (S : Schema) (R : Rule) (p : Form) (h : Here) (t : Ty) → SameOut (coerce_at k S R p h x t) (coerce_at k S R p h y t)
-  pub walked : (a b : Input) (x y : Raw) → Says a x → Says b y → Twin x y
-      → (k : ℕ) (S : Schema) (R : Rule) (cap : ℕ) (p : Form) (h : Here) (t : Ty) (depth used lead : ℕ)
-      → SameOut (walk_at k S R cap p h x t depth used lead) (walk_at k S R cap p h y t depth used lead)
+  pub outcome : (a b : Input) (x y : Raw) → Says a x → Says b y → Twin x y → SameOutcome x y
   pub loaded : (a b : Input) → Agree a b → (x y : Raw) → Says a x → Says b y → (k : ℕ) (S : Schema) (R : Rule) (cap : ℕ) (vs : List Variable) (st : State)
       → SameOut (slots_given (answer k S R cap vs st (load (form_of a) x))) (slots_given (answer k S R cap vs st (load (form_of b) y)))
   pub asked : (qs rs : List Request) → AgreeAll qs rs → (cs es : List Call) → CallsOf qs cs → CallsOf rs es

@@ -1,7 +1,17 @@
 // What JSON texts, literals and sheets' bytes agree on: a function for each law.
 #![tactic(auto)]
 
-ghost use Rattle.agreement.specs.Laws.{SourcesAgree, ShownAgree, EncodedStands, SheetsComeBack};
+ghost use Rattle.std.specs.Prelude.{ℕ};
+ghost use Rattle.model.specs.Values.{Raw};
+ghost use Rattle.model.specs.Twins.{Twin};
+ghost use Rattle.agreement.specs.Laws.{SameOutcome, SourcesAgree, ShownAgree, EncodedStands, SheetsComeBack};
+
+use source::raw::Source;
+
+// Whatever the sources are, values that are the same but for places have the same outcome in one form.
+pub fn any_sources_agree<A: Source, B: Source>(one: &A, other: &B)
+    ensures { (at to : ℕ) (x y : Raw) → A.stands one.now at x → B.stands other.now to y → Twin x y → SameOutcome x y }
+{}
 
 // An input says one value at most, and those that say the same but for places have the same outcome in one form,
 // whichever readers read them.
