@@ -16,3 +16,4 @@ pub mod Told
 pub mod TypeTold
 pub mod DeclarationTold
 pub mod Words
+pub mod Spans

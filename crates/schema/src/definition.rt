@@ -117,8 +117,12 @@ pub struct Schema<'a> {
     pub tree: Tree<'a>,
 }
 
+ghost use Rattle.schema.specs.Spans.{rows_in};
+
 // The records that stand in the span; none where it does not stand.
-pub fn between<R>(records: &[R], span: Span) -> &[R] {
+pub fn between<R>(records: &[R], span: Span) -> &[R]
+    ensures { result.now ≡ rows_in records.now span }
+{
     records.get(span.from..span.to).unwrap_or(&[])
 }
 

@@ -19,27 +19,27 @@ use Rattle.validation.specs.Places.{StandsFor, stands_for, lesser_of}
 use Rattle.validation.proofs.Least.{first_as, first_lesser, first_one, among_more, among_before, among_last}
 
 -- what a name stands for, where K says that it is known, and what it is declared as
-data Case (K : Type 0) : Base → Def → Type 0 where
+pub data Case (K : Type 0) : Base → Def → Type 0 where
   c_unknown : {d : Def} → (K → ⊥) → Case K Unknown d
   c_output : K → Case K Output output_d
   c_input : {b : Base} {d : Def} → K → (b ≡ Unknown → ⊥) → (b ≡ Output → ⊥) → (d ≡ output_d → ⊥) → Case K b d
 
-is_unknown : {K : Type 0} {b : Base} {d : Def} → Case K b d → b ≡ Unknown → K → ⊥
+pub is_unknown : {K : Type 0} {b : Base} {d : Def} → Case K b d → b ≡ Unknown → K → ⊥
 is_unknown (c_unknown n) e k = n k
 is_unknown (c_output h) e k = cc
 is_unknown (c_input h u o q) e k = u e
 
-unknown_is : {K : Type 0} {b : Base} {d : Def} → Case K b d → (K → ⊥) → b ≡ Unknown
+pub unknown_is : {K : Type 0} {b : Base} {d : Def} → Case K b d → (K → ⊥) → b ≡ Unknown
 unknown_is (c_unknown n) h = refl
 unknown_is (c_output k) h = absurd (h k)
 unknown_is (c_input k u o q) h = absurd (h k)
 
-is_output : {K : Type 0} {b : Base} {d : Def} → Case K b d → b ≡ Output → K × (d ≡ output_d)
+pub is_output : {K : Type 0} {b : Base} {d : Def} → Case K b d → b ≡ Output → K × (d ≡ output_d)
 is_output (c_unknown n) e = cc
 is_output (c_output k) e = (k, refl)
 is_output (c_input k u o q) e = absurd (o e)
 
-output_is : {K : Type 0} {b : Base} {d : Def} → Case K b d → K → d ≡ output_d → b ≡ Output
+pub output_is : {K : Type 0} {b : Base} {d : Def} → Case K b d → K → d ≡ output_d → b ≡ Output
 output_is (c_unknown n) k e = absurd (n k)
 output_is (c_output h) k e = refl
 output_is (c_input h u o q) k e = absurd (q e)
@@ -94,25 +94,25 @@ known_declares : (D : Document) (n : Name) → has built_in_names n ≡ false �
 known_declares D n f (known_built_in h) = absurd (true≢false (sym h ∙ f))
 known_declares D n f (known_declared {t} a e) = (t, a, e)
 
-case_of : (D : Document) (n : Name) → Case (Known D n) (base_in D n) (find (schema_of D) n)
+pub case_of : (D : Document) (n : Name) → Case (Known D n) (base_in D n) (find (schema_of D) n)
 case_of D n =
     case_built_in (Known D n) (same (codes "Int") n) (same (codes "Float") n) (same (codes "String") n) (same (codes "Boolean") n) (same (codes "ID") n) _ _
     known_built_in
     (λ f. case_as (declares_known D n) (known_declares D n f) (case_rows D 0 0 0 n))
 
 -- the name of a type
-inner_from : (marks : List Bool) (w : Name) (k : ℕ) → inner (ty_from marks w k) ≡ w
+pub inner_from : (marks : List Bool) (w : Name) (k : ℕ) → inner (ty_from marks w k) ≡ w
 inner_from marks w zero = refl
 inner_from marks w (suc k) = inner_from marks w k
 
 -- rows one by one
-each_to : {A B : Type 0} (R : A → B → Type 0) {x : A} (xs : List A) (ys : List B) → Each R xs ys → Among x xs → (y : B) × Among y ys × R x y
+pub each_to : {A B : Type 0} (R : A → B → Type 0) {x : A} (xs : List A) (ys : List B) → Each R xs ys → Among x xs → (y : B) × Among y ys × R x y
 each_to R [] ys h a = elim a [ ]
 each_to R (x ∷ xs) [] h a = absurd h
 each_to R (x ∷ xs) (y ∷ ys) h first = (y, first, h.0)
 each_to R (x ∷ xs) (y ∷ ys) h (later a) = let r = each_to R xs ys h.1 a in (r.0, later r.1, r.2)
 
-each_from : {A B : Type 0} (R : A → B → Type 0) {y : B} (xs : List A) (ys : List B) → Each R xs ys → Among y ys → (x : A) × Among x xs × R x y
+pub each_from : {A B : Type 0} (R : A → B → Type 0) {y : B} (xs : List A) (ys : List B) → Each R xs ys → Among y ys → (x : A) × Among x xs × R x y
 each_from R [] [] h a = elim a [ ]
 each_from R [] (y ∷ ys) h a = absurd h
 each_from R (x ∷ xs) [] h a = elim a [ ]

@@ -5,6 +5,7 @@ use Rattle.std.proofs.lemmas.List.{take_more}
 use Rattle.model.specs.Cycles.{Among, first, later}
 use Rattle.validation.specs.Making.{FirstFault}
 use Rattle.validation.specs.Places.{lesser_of}
+use Rattle.validation.specs.Repeats.{OneOf, one_of}
 
 -- faults that lie at the same places have the same first
 pub first_as : (P Q : ℕ → Type 0) (r : Option ℕ) → ((p : ℕ) → P p → Q p) → ((p : ℕ) → Q p → P p) → FirstFault P r → FirstFault Q r
@@ -67,3 +68,28 @@ among_before {A} {x} xs i d h a = subst (Among x) (sym (take_more xs i d h)) (am
 
 pub among_last : {A : Type 0} (xs : List A) (i : ℕ) (d : A) → i < length xs → Among (get_or xs i d) (take (i + 1) xs)
 among_last xs i d h = subst (Among (get_or xs i d)) (sym (take_more xs i d h)) (among_right (take i xs) _ first)
+
+-- one more of them, whose own first fault is known
+module _ {A : Type 0} (P : A → ℕ → Type 0) (xs : List A) (i : ℕ) (d : A) (within : i < length xs) where
+  one_kept : (p : ℕ) → OneOf P (take i xs) p → OneOf P (take (i + 1) xs) p
+  one_kept p (one_of a h) = one_of (among_before xs i d within a) h
+
+  one_last : (p : ℕ) → P (get_or xs i d) p → OneOf P (take (i + 1) xs) p
+  one_last p h = one_of (among_last xs i d within) h
+
+  one_parts : (p : ℕ) → OneOf P (take (i + 1) xs) p → OneOf P (take i xs) p ⊎ P (get_or xs i d) p
+  one_parts p (one_of {x} a h) = ⊎_elim (λ b. inl (one_of b h)) (λ e. inr (subst (λ (y : A). P y p) e h)) (among_more xs i d within a)
+
+  pub one_more : (r o : Option ℕ) → FirstFault (OneOf P (take i xs)) r → FirstFault (P (get_or xs i d)) o → FirstFault (OneOf P (take (i + 1) xs)) (lesser_of r o)
+  one_more r o h k =
+      first_as (λ p. OneOf P (take i xs) p ⊎ P (get_or xs i d) p) (OneOf P (take (i + 1) xs)) _
+      (λ p x. ⊎_elim (one_kept p) (one_last p) x)
+      one_parts
+      (first_lesser (OneOf P (take i xs)) (P (get_or xs i d)) r o h k)
+
+  pub none_more : (r : Option ℕ) → FirstFault (OneOf P (take i xs)) r → ((p : ℕ) → P (get_or xs i d) p → ⊥) → FirstFault (OneOf P (take (i + 1) xs)) r
+  none_more r h n = first_as (OneOf P (take i xs)) (OneOf P (take (i + 1) xs)) r one_kept (λ p x. ⊎_elim (λ y. y) (λ y. absurd (n p y)) (one_parts p x)) h
+
+-- the same of what the program found
+pub first_found : (P Q : ℕ → Type 0) (a b r : Option ℕ) → r ≡ lesser_of a b → FirstFault P a → FirstFault Q b → FirstFault (λ p. P p ⊎ Q p) r
+first_found P Q a b r e h k = subst (FirstFault (λ p. P p ⊎ Q p)) (sym e) (first_lesser P Q a b h k)

@@ -2,3 +2,4 @@ pub mod Diagnosed
 pub mod Faults
 pub mod Places
 pub mod Making
+pub mod Repeats

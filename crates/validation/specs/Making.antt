@@ -1,9 +1,9 @@
 -- The tests of a making: which faults lie where, and which of them is told.
-use Rattle.std.specs.Prelude.{◌≡◌, ℕ, ◌≤◌, ◌⊎◌, true, List, [], ◌∷◌, Some, None, Option, codes}
+use Rattle.std.specs.Prelude.{◌≡◌, ℕ, ◌≤◌, ◌⊎◌, true, List, [], ◌∷◌, ◌++◌, Some, None, Option, codes}
 use Rattle.model.specs.Values.{Name, has, output_d, TypeDef, find}
 use Rattle.model.specs.Checking.{inner}
 use Rattle.model.specs.Cycles.{Among, OnCycle}
-use Rattle.schema.specs.Documents.{Label, Declared, Document, an_input, field_of, types_in, schema_of}
+use Rattle.schema.specs.Documents.{Label, Declared, Definition, a_scalar, an_enum, an_input, an_output, a_directive, Document, field_of, types_in, schema_of}
 use Rattle.schema.specs.SchemaReading.{inputs_in, arguments_in}
 
 -- the least place where a fault lies, or none where none lies
@@ -33,6 +33,56 @@ pub data UnknownAt (D : Document) (p : ℕ) : Type 0 where
 -- at p a type's name is written that is declared, as no input type
 pub data NotInputAt (D : Document) (p : ℕ) : Type 0 where
   not_input_at : {d : Declared} → Input D d → Known D (inner d.typed.ty) → find (schema_of D) (inner d.typed.ty) ≡ output_d → d.typed.place ≡ p → NotInputAt D p
+
+-- NAMES
+
+-- at p stands a name that an earlier one of them has
+pub data Twice : List Label → ℕ → Type 0 where
+  twice_here : {l m : Label} {ls : List Label} → Among m ls → l.name ≡ m.name → Twice (l ∷ ls) m.place
+  twice_later : {l : Label} {ls : List Label} {p : ℕ} → Twice ls p → Twice (l ∷ ls) p
+
+abbrev pub labels_of : List Declared → List Label
+labels_of [] = []
+labels_of (d ∷ ds) = d.label ∷ labels_of ds
+
+-- the name of a type that is defined
+abbrev pub type_label : Definition → List Label
+type_label (a_scalar l) = l ∷ []
+type_label (an_enum l vs) = l ∷ []
+type_label (an_input l ds) = l ∷ []
+type_label (an_output l) = l ∷ []
+type_label (a_directive l ds r ps) = []
+
+abbrev pub type_labels : Document → List Label
+type_labels [] = []
+type_labels (d ∷ ds) = type_label d ++ type_labels ds
+
+-- the name of a directive that is defined
+abbrev pub directive_label : Definition → List Label
+directive_label (a_scalar l) = []
+directive_label (an_enum l vs) = []
+directive_label (an_input l ds) = []
+directive_label (an_output l) = []
+directive_label (a_directive l ds r ps) = l ∷ []
+
+abbrev pub directive_labels : Document → List Label
+directive_labels [] = []
+directive_labels (d ∷ ds) = directive_label d ++ directive_labels ds
+
+-- the names inside a definition: of an enum's values, of an input object's fields, of a directive's arguments
+abbrev pub inner_labels : Definition → List Label
+inner_labels (a_scalar l) = []
+inner_labels (an_enum l vs) = vs
+inner_labels (an_input l ds) = labels_of ds
+inner_labels (an_output l) = []
+inner_labels (a_directive l ds r ps) = labels_of ds
+
+-- at p a name is declared that is declared already (sections 3.3, 3.5, 3.9, 3.10 and 3.13)
+pub data NameTwiceAt (D : Document) : ℕ → Type 0 where
+  a_built_in : {l : Label} → Among l (type_labels D) → has built_in_names l.name ≡ true → NameTwiceAt D l.place
+  a_type_twice : {p : ℕ} → Twice (type_labels D) p → NameTwiceAt D p
+  a_directive_twice : {p : ℕ} → Twice (directive_labels D) p → NameTwiceAt D p
+  inside_twice : {d : Definition} {p : ℕ} → Among d D → Twice (inner_labels d) p → NameTwiceAt D p
 
 -- DEFAULT CYCLES (section 3.10)
 

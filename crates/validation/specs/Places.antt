@@ -1,6 +1,8 @@
 -- The lesser of two places, and where the types of fields stand for something.
 use Rattle.std.specs.Prelude.{◌≡◌, ℕ, cond, List, Some, None, Option, nat_le}
+use Rattle.model.specs.Values.{Name}
 use Rattle.model.specs.Cycles.{Among}
+use Rattle.schema.specs.Documents.{Label}
 use Rattle.schema.specs.declared.definition.Field.{Field}
 use Rattle.schema.specs.declared.types.Base.{Base}
 
@@ -13,3 +15,7 @@ lesser_of (Some p) (Some q) = Some (cond (nat_le p q) p q)
 -- at p a field's type is written whose name stands for this
 pub data StandsFor (base : Base) (fields : List Field) (p : ℕ) : Type 0 where
   stands_for : {f : Field} → Among f fields → f.ty.shape.base ≡ base → f.ty.place ≡ p → StandsFor base fields p
+
+-- a name at a place
+abbrev pub labelled : Name → ℕ → Label
+labelled n p = record { name = n; place = p }

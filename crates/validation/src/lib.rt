@@ -12,8 +12,10 @@ pub mod literal;
 #[cfg(test)]
 mod literal_tests;
 mod place;
+pub mod repeats;
 #[cfg(test)]
 mod tests;
+pub mod twice;
 pub mod types;
 pub mod variables;
 
