@@ -1,6 +1,8 @@
-pub mod Notes
-pub mod Least
 pub mod BaseStands
 pub mod CycleRows
-pub mod Twices
+pub mod Least
+pub mod Notes
 pub mod Repeating
+pub mod Rows
+pub mod Twices
+pub mod Usages

@@ -1,5 +1,6 @@
 pub mod Diagnosed
 pub mod Faults
-pub mod Places
+pub mod Literals
 pub mod Making
+pub mod Places
 pub mod Repeats

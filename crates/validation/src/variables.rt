@@ -1,12 +1,18 @@
 // The variables of an operation, and where they may be used.
-ghost use Rattle.std.specs.Prelude.{◌≡◌, ◌-◌};
+ghost use Rattle.std.specs.Prelude.{◌≡◌, ◌-◌, ◌&&◌, not, List};
+ghost use Rattle.std.proofs.Math.Option.{Option};
+ghost use Rattle.model.specs.Values.{Raw, nullable as nullable_type, Variable as VariableIn};
+ghost use Rattle.model.specs.Calls.{variable_of};
+ghost use Rattle.model.specs.Checking.{compatible, as_nullable, is_value, usage_allowed};
+ghost use Rattle.source.specs.Table.{tree_table};
+ghost use Rattle.schema.specs.Holds.{DefaultHeld};
+ghost use Rattle.validation.specs.Literals.{type_of, VariableHeld, Declares, RowFound};
 
 use lookup::Lookup;
 use schema::operation::Variable;
-use schema::types::{Shape, Type};
-use source::raw::{Kind, Source};
+use schema::types::Type;
+use source::raw::Kind;
 use source::tree::Tree;
-use source::value::Literal;
 
 // The variables that a check knows.
 #[derive_where(Clone, Copy)]
@@ -18,13 +24,23 @@ pub struct Variables<'c, 'v, L> {
     pub tree: &'c Tree<'v>,
 }
 
-// Whether a value of the first type may stand at the second (AreTypesCompatible).
-fn compatible(ty: Type<'_>, location: Type<'_>) -> bool {
-    if location.shape.is_non_null() && !ty.shape.is_non_null() {
-        return false;
-    }
+// Whether null is of the first type and may not stand at the second.
+fn only_nullable(ty: Type<'_>, location: Type<'_>) -> bool
+    ensures { result ≡ (not (nullable_type (type_of location.entry)) && nullable_type (type_of ty.entry)) }
+{
+    location.shape.is_non_null() && !ty.shape.is_non_null()
+}
+
+// Whether a value of the first type may stand at the second, or null alone keeps it from that (AreTypesCompatible).
+fn agree(ty: Type<'_>, location: Type<'_>) -> bool
+    ensures { result ≡ compatible (type_of ty.entry) (as_nullable (type_of location.entry)) }
+{
     match (ty.shape.is_list(), location.shape.is_list()) {
-        (true, true) => compatible(item(ty), item(location)),
+        (true, true) => {
+            let ty = item(ty);
+            let location = item(location);
+            !only_nullable(ty, location) && agree(ty, location)
+        }
         (false, false) => ty.name == location.name,
         _ => false,
     }
@@ -41,21 +57,6 @@ pub(crate) fn item(ty: Type<'_>) -> Type<'_>
     }
 }
 
-// The same type, at which null may stand.
-fn nullable(ty: Type<'_>) -> Type<'_> {
-    let mut non_null = ty.shape.non_null;
-    if let Some(mark) = non_null.get_mut(ty.shape.levels) {
-        *mark = false;
-    }
-    Type {
-        shape: Shape {
-            non_null,
-            ..ty.shape
-        },
-        ..ty
-    }
-}
-
 impl<'c, 'v, L> Variables<'c, 'v, L> {
     // Variables in a row, found by a lookup of their names, with the tree of their defaults.
     pub fn new(rows: &'c [Variable<'v>], names: &'c L, tree: &'c Tree<'v>) -> Variables<'c, 'v, L> {
@@ -65,24 +66,31 @@ impl<'c, 'v, L> Variables<'c, 'v, L> {
 
 impl<'c, 'v, L: Lookup> Variables<'c, 'v, L> {
     // The first variable with the name.
-    pub fn find(&self, name: &[u8]) -> Option<&Variable<'v>> {
+    pub fn find(&self, name: &[u8]) -> Option<&Variable<'v>>
+        ensures { (vs : List VariableIn) → Declares (L.names self.now.names.now) (tree_table self.now.tree.now) self.now.rows.now vs → RowFound (tree_table self.now.tree.now) (variable_of vs name.now) result }
+    {
         let index = self.names.find(name)?;
         self.rows.get(index)
     }
 
     // Whether the variable has a default that is not null.
-    fn has_default(&self, variable: &Variable<'_>) -> bool {
+    fn has_default(&self, variable: &Variable<'_>) -> bool
+        ensures { (x : Option Raw) → DefaultHeld (tree_table self.now.tree.now) variable.now.default x → result ≡ is_value x }
+    {
         match variable.default {
-            Some(at) => Literal::new(self.tree, at).kind(at) != Kind::Null,
+            Some(at) => self.tree.nodes.get(at).content.kind() != Kind::Null,
             None => false,
         }
     }
 
     // Whether the variable may be used at a location of the type (IsVariableUsageAllowed).
-    pub fn allow(&self, variable: &Variable<'_>, ty: Type<'_>, has_default: bool) -> bool {
-        if !ty.shape.is_non_null() || variable.ty.shape.is_non_null() {
-            return compatible(variable.ty, ty);
+    pub fn allow(&self, variable: &Variable<'_>, ty: Type<'_>, has_default: bool) -> bool
+        ensures { (v : VariableIn) → VariableHeld (tree_table self.now.tree.now) variable.now v → result ≡ usage_allowed v.field has_default (type_of ty.entry) }
+    {
+        let fits = agree(variable.ty, ty);
+        if has_default || !only_nullable(variable.ty, ty) {
+            return fits;
         }
-        (has_default || self.has_default(variable)) && compatible(variable.ty, nullable(ty))
+        fits && self.has_default(variable)
     }
 }
