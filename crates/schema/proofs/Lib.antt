@@ -2,6 +2,7 @@ pub mod CursorLaws
 pub mod Listing
 pub mod Readings
 pub mod Seeing
+pub mod Spanning
 pub mod Taking
 pub mod TypeSteps
 pub mod Placing

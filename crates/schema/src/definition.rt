@@ -117,7 +117,8 @@ pub struct Schema<'a> {
     pub tree: Tree<'a>,
 }
 
-ghost use Rattle.schema.specs.Spans.{rows_in};
+ghost use Rattle.model.specs.Values.{has};
+ghost use Rattle.schema.specs.Spans.{rows_in, inside_at};
 
 // The records that stand in the span; none where it does not stand.
 pub fn between<R>(records: &[R], span: Span) -> &[R]
@@ -181,22 +182,33 @@ impl<'a> Schema<'a> {
     }
 
     // Where the values or fields of a declared type stand; those of none nowhere.
-    pub fn inside(&self, index: usize) -> Span {
-        self.types.get(index).map_or(Span::EMPTY, |ty| ty.inside)
+    pub fn inside(&self, index: usize) -> Span
+        ensures { result ≡ inside_at self.now.types.items index }
+    {
+        match self.types.get(index) {
+            Some(ty) => ty.inside,
+            None => Span::EMPTY,
+        }
     }
 
     // The values of an enum.
-    pub fn values_of(&self, index: usize) -> &[EnumValue<'a>] {
+    pub fn values_of(&self, index: usize) -> &[EnumValue<'a>]
+        ensures { result.now ≡ rows_in self.now.values.items (inside_at self.now.types.items index) }
+    {
         between(self.values.as_slice(), self.inside(index))
     }
 
     // The fields of an input object.
-    pub fn fields_of(&self, index: usize) -> &[Field<'a>] {
+    pub fn fields_of(&self, index: usize) -> &[Field<'a>]
+        ensures { result.now ≡ rows_in self.now.fields.items (inside_at self.now.types.items index) }
+    {
         between(self.fields.as_slice(), self.inside(index))
     }
 
     // The arguments of a directive.
-    pub fn arguments_of(&self, directive: &Directive<'_>) -> &[Field<'a>] {
+    pub fn arguments_of(&self, directive: &Directive<'_>) -> &[Field<'a>]
+        ensures { result.now ≡ rows_in self.now.arguments.items directive.now.arguments }
+    {
         between(self.arguments.as_slice(), directive.arguments)
     }
 
@@ -205,7 +217,9 @@ impl<'a> Schema<'a> {
     }
 
     // Whether an enum has a value of that name.
-    pub fn has_value(&self, index: usize, name: &[u8]) -> bool {
+    pub fn has_value(&self, index: usize, name: &[u8]) -> bool
+        ensures { result ≡ has (map (λ v. v.name.now) (rows_in self.now.values.items (inside_at self.now.types.items index))) name.now }
+    {
         Table::new(self.values_of(index)).find(name).is_some()
     }
 
