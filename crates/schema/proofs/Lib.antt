@@ -1,5 +1,6 @@
 pub mod CursorLaws
 pub mod Listing
+pub mod RangeLaws
 pub mod Readings
 pub mod Seeing
 pub mod Spanning

@@ -7,6 +7,7 @@ pub mod Laws
 pub mod LocationTold
 pub mod Locations
 pub mod Outcomes
+pub mod Ranges
 pub mod Reading
 pub mod Rows
 pub mod SchemaGrammar
