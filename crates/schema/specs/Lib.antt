@@ -18,4 +18,3 @@ pub mod Told
 pub mod TypeTold
 pub mod Types
 pub mod Words
-pub mod Spans
