@@ -3,6 +3,8 @@ pub mod CursorLaws
 pub mod Eating
 pub mod Entering
 pub mod Listing
+pub mod OperationRows
+pub mod OperationSteps
 pub mod Placing
 pub mod RangeLaws
 pub mod Readings

@@ -3,9 +3,13 @@ pub mod DeclarationTold
 pub mod Declarations
 pub mod Documents
 pub mod Holds
+pub mod HoldsOperation
 pub mod Laws
 pub mod LocationTold
 pub mod Locations
+pub mod OperationGrammar
+pub mod OperationReading
+pub mod OperationTold
 pub mod Outcomes
 pub mod Ranges
 pub mod Reading

@@ -1,11 +1,21 @@
 // Operations: the variables that a text defines, and its uses of directives.
-ghost use Rattle.std.specs.Prelude.{◌≡◌, ◌≤◌, map, IfOk, vec_len};
+ghost use Rattle.std.specs.Prelude.{◌≡◌, ◌<◌, ◌≤◌, map, IfOk, vec_len};
 ghost use Rattle.lookup.specs.First.{First};
+ghost use Rattle.source.specs.Table.{table_of};
+ghost use Rattle.schema.specs.Documents.{Document};
+ghost use Rattle.schema.specs.Holds.{Holds};
+ghost use Rattle.schema.specs.OperationReading.{a_kind, ReadsName, ReadsAfterDollar, ReadsVariableList, ReadsVariables, ReadsAfterAt, ReadsUseArguments, ReadsArgumentList};
+ghost use Rattle.schema.specs.OperationTold.{KindIs, BeginsTold, VariableRead, VariablesRead, UseRead, ArgumentsAdded, OperationTold};
+ghost use Rattle.schema.specs.Rows.{base_in};
+ghost use Rattle.schema.specs.Outcomes.{Takes};
 ghost use Rattle.schema.specs.Reading.{Onward};
+ghost use Rattle.schema.specs.Told.{Told, Itself, Spelled};
+ghost use Rattle.text.specs.TokenFound.{view_of};
 
 use crate::declaration;
 use crate::declaration::Declaration;
 use crate::definition::{Schema, between};
+use crate::document::item_name;
 use crate::tokens::{Name, Tokens};
 use crate::types::Type;
 use lookup::{Lookup, Named, Table};
@@ -129,24 +139,19 @@ pub fn read_operation<'a>(
     schema: &Schema<'_>,
     text: &'a [u8],
 ) -> Result<Operation<'a>, Fault>
-    ensures { IfOk result (λ o. vec_len o.variables ≤ 64) }
+    ensures few { IfOk result (λ o. vec_len o.variables ≤ 64) }
+    ensures told { (S : Document) → Holds schema.now S → OperationTold (base_in S) text.now result }
 {
     let mut tokens = Tokens::new(text)?;
     let kind = operation_kind(&mut tokens)?;
-    if let Token::Name(_) = tokens.peek()?.token {
-        tokens.next()?;
-    }
+    pass_name(&mut tokens)?;
     let mut nodes = Nodes::new(heap);
-    let variables = match tokens.eat(Token::OpenParen)? {
-        Some(_) => definitions(heap, schema, &mut tokens, &mut nodes)?,
-        None => Vec::new(heap),
-    };
+    let variables = variables(heap, schema, &mut tokens, &mut nodes)?;
     let mut uses = Vec::new(heap);
     let mut arguments = Vec::new(heap);
-    while let Some(place) = tokens.eat(Token::At)? {
+    while let Some(place) = begins(&mut tokens, Token::At, Token::End, true)? {
         uses.push(directive_use(place, &mut tokens, &mut arguments, &mut nodes)?)?;
     }
-    tokens.expect(Token::End)?;
     Ok(Operation {
         kind,
         variables,
@@ -156,14 +161,69 @@ pub fn read_operation<'a>(
     })
 }
 
+// The place of the token that the next item of a list begins with, which is passed; none where the list closes, which it
+// may do if `may_close`.
+fn begins(
+    tokens: &mut Tokens<'_>,
+    first: Token<'_>,
+    close: Token<'_>,
+    may_close: bool,
+) -> Result<Option<usize>, Fault>
+    requires { Spelled (view_of first) × Spelled (view_of close) }
+    ensures { BeginsTold (view_of first.entry) (view_of close.entry) may_close tokens.old tokens.new result }
+{
+    let Lexeme { token, start, .. } = tokens.next()?;
+    if may_close && token == close {
+        return Ok(None);
+    }
+    if token != first {
+        return Err(Fault::BadText(start));
+    }
+    Ok(Some(start))
+}
+
 // The kind of the operation, which comes next.
-fn operation_kind(tokens: &mut Tokens<'_>) -> Result<OperationKind, Fault> {
+fn operation_kind(tokens: &mut Tokens<'_>) -> Result<OperationKind, Fault>
+    ensures { Told 1 (λ N. Takes N a_kind) KindIs tokens.old tokens.new result }
+{
     let Name { name, place } = tokens.name()?;
-    match name {
-        b"query" => Ok(OperationKind::Query),
-        b"mutation" => Ok(OperationKind::Mutation),
-        b"subscription" => Ok(OperationKind::Subscription),
-        _ => Err(Fault::BadText(place)),
+    // It compares, since the facts of a match on byte strings have no names that a proof could cite.
+    if name == b"query".as_slice() {
+        Ok(OperationKind::Query)
+    } else if name == b"mutation".as_slice() {
+        Ok(OperationKind::Mutation)
+    } else if name == b"subscription".as_slice() {
+        Ok(OperationKind::Subscription)
+    } else {
+        Err(Fault::BadText(place))
+    }
+}
+
+// Passes the operation's name, if it has one.
+fn pass_name(tokens: &mut Tokens<'_>) -> Result<(), Fault>
+    ensures { Told 0 ReadsName Itself tokens.old tokens.new result }
+{
+    let lexeme = tokens.peek()?;
+    if let Token::Name(_) = lexeme.token {
+        tokens.at = lexeme.end;
+    }
+    Ok(())
+}
+
+// The variables that are defined, if any.
+fn variables<'a>(
+    heap: Global,
+    schema: &Schema<'_>,
+    tokens: &mut Tokens<'a>,
+    nodes: &mut Nodes,
+) -> Result<Vec<Variable<'a>>, Fault>
+    ensures few { IfOk result (λ variables. vec_len variables ≤ 64) }
+    ensures onward { IfOk result (λ _. Onward 0 tokens.old tokens.new) }
+    ensures told { (S : Document) → Holds schema.now S → Told 0 ReadsVariables (λ vs. VariablesRead (base_in S) (table_of tokens.old.text.now nodes.old) (table_of tokens.old.text.now nodes.new) vs.items) tokens.old tokens.new result }
+{
+    match tokens.eat(Token::OpenParen)? {
+        Some(_) => definitions(heap, schema, tokens, nodes),
+        None => Ok(Vec::new(heap)),
     }
 }
 
@@ -174,30 +234,49 @@ fn definitions<'a>(
     tokens: &mut Tokens<'a>,
     nodes: &mut Nodes,
 ) -> Result<Vec<Variable<'a>>, Fault>
-    ensures { IfOk result (λ variables. vec_len variables ≤ 64) }
+    ensures few { IfOk result (λ variables. vec_len variables ≤ 64) }
+    ensures onward { IfOk result (λ _. Onward 0 tokens.old tokens.new) }
+    ensures told { (S : Document) → Holds schema.now S → Told 0 ReadsVariableList (λ vs. VariablesRead (base_in S) (table_of tokens.old.text.now nodes.old) (table_of tokens.old.text.now nodes.new) vs.items) tokens.old tokens.new result }
 {
     let mut variables = Vec::new(heap);
-    loop {
-        let Lexeme { token, start, .. } = tokens.next()?;
-        match token {
-            Token::Dollar => {
-                let Name { name, place } = tokens.name()?;
-                if variables.len() >= MOST_VARIABLES {
-                    return Err(Fault::NoSpace(place));
-                }
-                let Declaration { ty, default } = declaration::declared(tokens, nodes)?;
-                variables.push(Variable {
-                    name,
-                    name_place: place,
-                    place: start,
-                    ty: ty.of(schema.base(ty.name)),
-                    default,
-                })?;
-            }
-            Token::CloseParen if !variables.is_empty() => return Ok(variables),
-            _ => return Err(Fault::BadText(start)),
-        }
+    while let Some(place) = begins(
+        tokens,
+        Token::Dollar,
+        Token::CloseParen,
+        !variables.is_empty(),
+    )? {
+        variables.push(variable_at(schema, place, variables.len(), tokens, nodes)?)?;
     }
+    Ok(variables)
+}
+
+// The variable whose `$` was read, after so many others.
+fn variable_at<'a>(
+    schema: &Schema<'_>,
+    place: usize,
+    before: usize,
+    tokens: &mut Tokens<'a>,
+    nodes: &mut Nodes,
+) -> Result<Variable<'a>, Fault>
+    ensures few { IfOk result (λ _. before < 64) }
+    ensures onward { IfOk result (λ _. Onward 1 tokens.old tokens.new) }
+    ensures told { (S : Document) → Holds schema.now S → Told 1 (λ N. ReadsAfterDollar N before place) (VariableRead (base_in S) (table_of tokens.old.text.now nodes.old) (table_of tokens.old.text.now nodes.new)) tokens.old tokens.new result }
+{
+    let Name {
+        name,
+        place: name_place,
+    } = tokens.name()?;
+    if before >= MOST_VARIABLES {
+        return Err(Fault::NoSpace(name_place));
+    }
+    let Declaration { ty, default } = declaration::declared(tokens, nodes)?;
+    Ok(Variable {
+        name,
+        name_place,
+        place,
+        ty: ty.of(schema.base(ty.name)),
+        default,
+    })
 }
 
 // The use whose `@` was read.
@@ -207,18 +286,29 @@ fn directive_use<'a>(
     arguments: &mut Vec<Argument<'a>>,
     nodes: &mut Nodes,
 ) -> Result<Use<'a>, Fault>
-    ensures { IfOk result (λ _. Onward 1 tokens.old tokens.new) }
+    ensures { Told 1 (λ N. ReadsAfterAt N place) (UseRead (table_of tokens.old.text.now nodes.old) (table_of tokens.old.text.now nodes.new) arguments.old.items arguments.new.items) tokens.old tokens.new result }
 {
     let Name { name, .. } = tokens.name()?;
-    let arguments = match tokens.eat(Token::OpenParen)? {
-        Some(_) => arguments_in(tokens, arguments, nodes)?,
-        None => Span::EMPTY,
-    };
+    let arguments = use_arguments(tokens, arguments, nodes)?;
     Ok(Use {
         name,
         place,
         arguments,
     })
+}
+
+// The arguments of a use, if it has any: where they stand.
+fn use_arguments<'a>(
+    tokens: &mut Tokens<'a>,
+    arguments: &mut Vec<Argument<'a>>,
+    nodes: &mut Nodes,
+) -> Result<Span, Fault>
+    ensures { Told 0 ReadsUseArguments (ArgumentsAdded (table_of tokens.old.text.now nodes.old) (table_of tokens.old.text.now nodes.new) arguments.old.items arguments.new.items) tokens.old tokens.new result }
+{
+    match tokens.eat(Token::OpenParen)? {
+        Some(_) => arguments_in(tokens, arguments, nodes),
+        None => Ok(Span::EMPTY),
+    }
 }
 
 // The arguments before the `)`, at least one: where they stand.
@@ -227,28 +317,20 @@ fn arguments_in<'a>(
     arguments: &mut Vec<Argument<'a>>,
     nodes: &mut Nodes,
 ) -> Result<Span, Fault>
-    ensures { IfOk result (λ _. Onward 0 tokens.old tokens.new) }
+    ensures { Told 0 ReadsArgumentList (ArgumentsAdded (table_of tokens.old.text.now nodes.old) (table_of tokens.old.text.now nodes.new) arguments.old.items arguments.new.items) tokens.old tokens.new result }
 {
     let from = arguments.len();
-    loop {
-        let Lexeme { token, start, .. } = tokens.next()?;
-        match token {
-            Token::Name(name) => {
-                tokens.expect(Token::Colon)?;
-                let value = tokens.literal(nodes)?;
-                arguments.push(Argument {
-                    name,
-                    place: start,
-                    value,
-                })?;
-            }
-            Token::CloseParen if arguments.len() != from => {
-                return Ok(Span {
-                    from,
-                    to: arguments.len(),
-                });
-            }
-            _ => return Err(Fault::BadText(start)),
-        }
+    while let Some(Name { name, place }) = item_name(
+        tokens,
+        Token::CloseParen,
+        arguments.len() != from,
+    )? {
+        tokens.expect(Token::Colon)?;
+        let value = tokens.literal(nodes)?;
+        arguments.push(Argument { name, place, value })?;
     }
+    Ok(Span {
+        from,
+        to: arguments.len(),
+    })
 }
