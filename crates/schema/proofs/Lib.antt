@@ -1,5 +1,6 @@
 pub mod Basing
 pub mod CursorLaws
+pub mod Defining
 pub mod Eating
 pub mod Entering
 pub mod Listing
@@ -8,8 +9,10 @@ pub mod OperationSteps
 pub mod Placing
 pub mod RangeLaws
 pub mod Readings
+pub mod Resolving
 pub mod Rowing
 pub mod Seeing
 pub mod Spanning
 pub mod Taking
 pub mod TypeSteps
+pub mod Whole

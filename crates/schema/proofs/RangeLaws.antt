@@ -1,17 +1,17 @@
 -- Digits that are compared byte by byte are compared by their worth.
-use Rattle.std.proofs.Common.{◌≡◌, ◌≢◌, ℕ, zero, suc, ◌+◌, ◌-◌, ◌*◌, ◌^◌, ◌<◌, ◌≤◌, Bool, true, false, cond, not, ◌&&◌, take, drop, codes, eqb, ltb, leb, ◌⊎◌, inl, inr, List, [], ◌∷◌, ◌++◌, length, replicate, ℤ, pos, negsuc, nat_lt, nat_le, refl, sym, ap, ◌∙◌, subst, ⊎_elim, mul_assoc, add-mul, eq-eqb, length-append, arith}
+use Rattle.std.proofs.Common.{◌≡◌, ℕ, zero, suc, ◌+◌, ◌-◌, ◌*◌, ◌^◌, ◌<◌, ◌≤◌, Bool, true, false, cond, not, ◌&&◌, take, drop, codes, eqb, leb, ◌⊎◌, inl, inr, List, [], ◌∷◌, ◌++◌, length, replicate, ℤ, pos, negsuc, nat_lt, nat_le, refl, sym, ap, ◌∙◌, subst, ⊎_elim, add-mul, eq-eqb, length-append, arith}
 use native.Mathlib.Nat.{pow-succ'}
-use Rattle.std.proofs.Math.Nat.{pow-le-pow_right, mul-le-mul_left, mul-le-mul_right}
-use Rattle.std.proofs.lemmas.Bool.{cases_Bool, cases_lt, cases_eq, lt-ltb, le-ltb, ltb-true, ltb-false, cond-true, cond-false, leb-true, eqb-true}
+use Rattle.std.proofs.Math.Nat.{pow-le-pow_right, mul-le-mul_right}
+use Rattle.std.proofs.lemmas.Bool.{cases_lt, cases_eq, lt-ltb, le-ltb, cond-true, cond-false, leb-true, eqb-true}
 use Rattle.std.proofs.lemmas.Bool.Decides.{nat_tests}
 use Rattle.std.proofs.lemmas.List.{length-replicate}
 use Rattle.std.proofs.lemmas.Nat.{pow-add}
-use Rattle.text.specs.NumberGrammar.{IsDigit, Digits, none, digit}
-use Rattle.text.specs.NumberWorth.{after, value}
+use Rattle.text.specs.NumberGrammar.{Digits, none, digit}
+use Rattle.text.specs.NumberWorth.{value}
 use Rattle.text.proofs.NormValues.{after_is, value-zeros}
 use lib.Pointwise.{pointwise}
 use Rattle.text.specs.NormalForm.{WholeForm, whole_zero, whole_above, whole_below}
-use Rattle.model.specs.Numbers.{below_bound, float_bound, in_int, is_negative, digits_in}
+use Rattle.model.specs.Numbers.{below_bound, float_bound, in_int}
 use Rattle.schema.specs.Ranges.{Numeral, zero_numeral, numeral, comes_before, places_of}
 
 and_parts : (a b : Bool) → (a && b) ≡ true → (a ≡ true) × (b ≡ true)
@@ -241,16 +241,16 @@ module _ (B : ℕ) (fb : List ℕ) (g : Numeral (pos 0) fb) (l : length fb ≡ 3
   positive_off : (ds : List ℕ) (e : ℕ) → Numeral (pos e) ds → (length ds + e ≡ 309 → ⊥) → nat_lt (length ds + e) 309 ≡ nat_lt (value ds * 10 ^ e) B
   positive_off ds e h n = ⊎_elim
       (λ z. lt-ltb (length ds + e) 309 z ∙ sym (lt-ltb (value ds * 10 ^ e) B (
-        let t : 10 ^ (length ds + e) ≤ 10 ^ 308 = tens (length ds + e) 308 (omega (arith, z)) in
-        let r = raised ds e (digits_of h) in omega (arith, t, r, low))))
+      let t : 10 ^ (length ds + e) ≤ 10 ^ 308 = tens (length ds + e) 308 (omega (arith, z)) in
+      let r = raised ds e (digits_of h) in omega (arith, t, r, low))))
       (λ z. le-ltb (length ds + e) 309 z ∙ sym (le-ltb (value ds * 10 ^ e) B (⊎_elim
-        (λ w. absurd (let a : length ds ≡ 1 = ap length w.0 in let b : e ≡ 0 = cc (w.1) in omega (arith, a, b, z)))
-        (λ w.
-          let m : 10 ^ (length ds - 1) * 10 ^ e ≤ value ds * 10 ^ e = mul-le-mul_right (10 ^ e) w in
-          let p = pow-add 10 (length ds - 1) e in
-          let t : 10 ^ 309 ≤ 10 ^ (length ds - 1 + e) = tens 309 (length ds - 1 + e) (omega (arith, z, n)) in
-          omega (arith, m, p, t, high))
-        (numeral_low ds h))))
+      (λ w. absurd (let a : length ds ≡ 1 = ap length w.0 in let b : e ≡ 0 = cc (w.1) in omega (arith, a, b, z)))
+      (λ w.
+      let m : 10 ^ (length ds - 1) * 10 ^ e ≤ value ds * 10 ^ e = mul-le-mul_right (10 ^ e) w in
+      let p = pow-add 10 (length ds - 1) e in
+      let t : 10 ^ 309 ≤ 10 ^ (length ds - 1 + e) = tens 309 (length ds - 1 + e) (omega (arith, z, n)) in
+      omega (arith, m, p, t, high))
+      (numeral_low ds h))))
       (cases_lt (length ds + e) 309)
 
   negative_at : (ds : List ℕ) (e : ℕ) → Numeral (negsuc e) ds → length ds - suc e ≡ 309 → comes_before ds fb ≡ nat_lt (value ds) (B * 10 ^ suc e)
@@ -264,18 +264,18 @@ module _ (B : ℕ) (fb : List ℕ) (g : Numeral (pos 0) fb) (l : length fb ≡ 3
   negative_off : (ds : List ℕ) (e : ℕ) → Numeral (negsuc e) ds → (length ds - suc e ≡ 309 → ⊥) → nat_lt (length ds - suc e) 309 ≡ nat_lt (value ds) (B * 10 ^ suc e)
   negative_off ds e h n = ⊎_elim
       (λ z. lt-ltb (length ds - suc e) 309 z ∙ sym (lt-ltb (value ds) (B * 10 ^ suc e) (
-        let t : 10 ^ length ds ≤ 10 ^ (308 + suc e) = tens (length ds) (308 + suc e) (omega (arith, z)) in
-        let p = pow-add 10 308 (suc e) in
-        let m : 10 ^ 308 * 10 ^ suc e ≤ B * 10 ^ suc e = mul-le-mul_right (10 ^ suc e) low in
-        let r = value_below ds (digits_of h) in omega (arith, t, p, m, r))))
+      let t : 10 ^ length ds ≤ 10 ^ (308 + suc e) = tens (length ds) (308 + suc e) (omega (arith, z)) in
+      let p = pow-add 10 308 (suc e) in
+      let m : 10 ^ 308 * 10 ^ suc e ≤ B * 10 ^ suc e = mul-le-mul_right (10 ^ suc e) low in
+      let r = value_below ds (digits_of h) in omega (arith, t, p, m, r))))
       (λ z. le-ltb (length ds - suc e) 309 z ∙ sym (le-ltb (value ds) (B * 10 ^ suc e) (⊎_elim
-        (λ w. absurd (cc (w.1)))
-        (λ w.
-          let t : 10 ^ (309 + suc e) ≤ 10 ^ (length ds - 1) = tens (309 + suc e) (length ds - 1) (omega (arith, z, n)) in
-          let p = pow-add 10 309 (suc e) in
-          let m : B * 10 ^ suc e ≤ 10 ^ 309 * 10 ^ suc e = mul-le-mul_right (10 ^ suc e) (omega (arith, high)) in
-          omega (arith, t, p, m, w))
-        (numeral_low ds h))))
+      (λ w. absurd (cc (w.1)))
+      (λ w.
+      let t : 10 ^ (309 + suc e) ≤ 10 ^ (length ds - 1) = tens (309 + suc e) (length ds - 1) (omega (arith, z, n)) in
+      let p = pow-add 10 309 (suc e) in
+      let m : B * 10 ^ suc e ≤ 10 ^ 309 * 10 ^ suc e = mul-le-mul_right (10 ^ suc e) (omega (arith, high)) in
+      omega (arith, t, p, m, w))
+      (numeral_low ds h))))
       (cases_lt (length ds - suc e) 309)
 
   pub at_bound : (x : ℤ) (ds : List ℕ) (p : ℕ) → Numeral x ds → p ≡ places_of x (length ds) → p ≡ 309 → comes_before ds fb ≡ below x (value ds)

@@ -1,5 +1,5 @@
 -- The rows that the definitions of a schema make, in the order of the text, without references.
-use Rattle.std.specs.Prelude.{ℕ, zero, suc, ◌+◌, Bool, cond, List, [], ◌∷◌, ◌++◌, length, codes}
+use Rattle.std.specs.Prelude.{ℕ, suc, ◌+◌, Bool, cond, List, [], ◌∷◌, ◌++◌, length, codes}
 use Rattle.model.specs.Values.{Name, same, Location}
 use Rattle.source.specs.declared.raw.Span.{Span}
 use Rattle.schema.specs.declared.definition.TypeKind.{TypeKind}
@@ -41,18 +41,13 @@ pub record DirectiveRow : Type 0 where
   pub locations : List Location
   pub repeatable : Bool
 
--- the span of n arguments after `from` others; of none it is empty
-abbrev pub argument_span : (from n : ℕ) → Span
-argument_span from zero = span 0 0
-argument_span from (suc n) = span from (suc n)
-
 -- after a arguments
 abbrev pub directive_row : (a : ℕ) → Definition → List DirectiveRow
 directive_row a (a_scalar l) = []
 directive_row a (an_enum l vs) = []
 directive_row a (an_input l ds) = []
 directive_row a (an_output l) = []
-directive_row a (a_directive l ds r ps) = record { label = l; arguments = argument_span a (length ds); locations = ps; repeatable = r } ∷ []
+directive_row a (a_directive l ds r ps) = record { label = l; arguments = span a (length ds); locations = ps; repeatable = r } ∷ []
 
 abbrev pub directive_rows_from : (a : ℕ) → Document → List DirectiveRow
 directive_rows_from a [] = []

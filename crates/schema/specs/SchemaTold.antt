@@ -11,6 +11,8 @@ use Rattle.source.specs.declared.raw.Span.{Span}
 use Rattle.source.specs.Table.{Table, tree_table, Keeps}
 use Rattle.schema.specs.declared.definition.TypeKind.{TypeKind}
 use Rattle.schema.specs.declared.definition.TypeKind.TheVariants.{Scalar, Enum, Input, Output}
+use Rattle.schema.specs.declared.document.Keyword.{Keyword as Word}
+use Rattle.schema.specs.declared.document.Keyword.TheVariants.{«Type», Directive}
 use Rattle.schema.specs.declared.definition.Field.{Field}
 use Rattle.schema.specs.declared.definition.Schema.{Schema}
 use Rattle.schema.specs.declared.tokens.Name.{Name}
@@ -70,14 +72,16 @@ sort_of Enum = s_enum
 sort_of Input = s_input
 sort_of Output = s_output
 
--- the kind of type that a keyword declares
-abbrev pub KindTold : mathlib.Core.Option.Option Keyword → Option TypeKind → Type 0
-KindTold none None = Unit {0}
-KindTold none (Some k) = ⊥
-KindTold (some k_directive) None = Unit {0}
-KindTold (some k_directive) (Some k) = ⊥
-KindTold (some (k_type s)) None = ⊥
-KindTold (some (k_type s)) (Some k) = sort_of k ≡ s
+abbrev pub keyword_of : Word → Keyword
+keyword_of («Type» k) = k_type (sort_of k)
+keyword_of Directive = k_directive
+
+-- what a name begins a definition of, or that it begins none
+abbrev pub KeywordTold : mathlib.Core.Option.Option Keyword → Option Word → Type 0
+KeywordTold none None = Unit {0}
+KeywordTold none (Some w) = ⊥
+KeywordTold (some k) None = ⊥
+KeywordTold (some k) (Some w) = keyword_of w ≡ k
 
 -- how much the tables hold
 abbrev pub counts : Schema → Counts

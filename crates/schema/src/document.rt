@@ -8,9 +8,9 @@ ghost use Rattle.schema.specs.Holds.{Each, FieldHeld, HeldBy, Holds, LocationsHe
 ghost use Rattle.schema.specs.Locations.{in_table};
 ghost use Rattle.schema.specs.Rows.{base_by};
 ghost use Rattle.schema.specs.Reading.{Onward};
-ghost use Rattle.schema.specs.SchemaReading.{keywords, reserved, ReadsAllLocations, ReadsContents, ReadsDirective, ReadsFieldList, ReadsTypeDefinition, ReadsValueList};
-ghost use Rattle.schema.specs.SchemaTold.{Added, ContentsAdded, FieldsAdded, ItemTold, KindTold, SchemaTold, ValuesAdded, counts, sort_of, unknown};
-ghost use Rattle.schema.specs.Told.{Told, Spelled, is_token};
+ghost use Rattle.schema.specs.SchemaReading.{keywords, reserved, ReadsAllLocations, ReadsArguments, ReadsContents, ReadsDirective, ReadsFieldList, ReadsManner, ReadsTypeDefinition, ReadsValueList};
+ghost use Rattle.schema.specs.SchemaTold.{Added, ContentsAdded, FieldsAdded, ItemTold, KeywordTold, SchemaTold, ValuesAdded, counts, sort_of, unknown};
+ghost use Rattle.schema.specs.Told.{Itself, Told, Spelled, is_token};
 
 use crate::declaration;
 use crate::declaration::Declaration;
@@ -28,9 +28,16 @@ use std::alloc::Global;
 use text::fault::Fault;
 use text::token::{Lexeme, Token};
 
+// What a definition begins with: the kind of a type, or `directive`.
+enum Keyword {
+    Type(TypeKind),
+    Directive,
+}
+
 // Reads a schema: any number of definitions.
 pub fn read_schema(heap: Global, text: &[u8]) -> Result<Schema<'_>, Fault>
-    ensures { IfOk result Few }
+    ensures told { SchemaTold text.now result }
+    ensures few { IfOk result Few }
 {
     let mut tokens = Tokens::new(text)?;
     let mut schema = Schema {
@@ -44,31 +51,27 @@ pub fn read_schema(heap: Global, text: &[u8]) -> Result<Schema<'_>, Fault>
             nodes: Nodes::new(heap),
         },
     };
-    loop {
-        let Lexeme { token, start, .. } = tokens.next()?;
-        match token {
-            Token::End => break,
-            Token::Name(b"directive") => directive(&mut tokens, &mut schema)?,
-            Token::Name(keyword) => {
-                let kind = declares(keyword).ok_or(Fault::BadText(start))?;
-                definition(&mut tokens, kind, &mut schema)?;
-            }
-            _ => return Err(Fault::BadText(start)),
+    while let Some(Name { name, place }) = item_name(&mut tokens, Token::End, true)? {
+        match begun_by(name) {
+            Some(Keyword::Type(kind)) => definition(&mut tokens, kind, &mut schema)?,
+            Some(Keyword::Directive) => directive(&mut tokens, &mut schema)?,
+            None => return Err(Fault::BadText(place)),
         }
     }
     resolve(&mut schema);
     Ok(schema)
 }
 
-// What kind of type a keyword declares.
-fn declares(keyword: &[u8]) -> Option<TypeKind>
-    ensures { KindTold (in_table keywords keyword.now) result }
+// What a name begins a definition of.
+fn begun_by(name: &[u8]) -> Option<Keyword>
+    ensures { KeywordTold (in_table keywords name.now) result }
 {
-    match keyword {
-        b"scalar" => Some(TypeKind::Scalar),
-        b"enum" => Some(TypeKind::Enum),
-        b"input" => Some(TypeKind::Input),
-        b"type" | b"interface" | b"union" => Some(TypeKind::Output),
+    match name {
+        b"directive" => Some(Keyword::Directive),
+        b"scalar" => Some(Keyword::Type(TypeKind::Scalar)),
+        b"enum" => Some(Keyword::Type(TypeKind::Enum)),
+        b"input" => Some(Keyword::Type(TypeKind::Input)),
+        b"type" | b"interface" | b"union" => Some(Keyword::Type(TypeKind::Output)),
         _ => None,
     }
 }
@@ -79,9 +82,11 @@ fn definition<'a>(
     kind: TypeKind,
     schema: &mut Schema<'a>,
 ) -> Result<(), Fault>
-    requires { Few schema.old }
-    ensures onward { IfOk result (λ _. Onward 1 tokens.old tokens.new) }
+    requires few { Few schema.old }
+    requires text { schema.old.tree.text.now ≡ tokens.old.text.now }
+    ensures told { Told 1 (λ N. ReadsTypeDefinition N (counts schema.old) (sort_of kind)) (λ _ d. Added schema.old schema.new d) tokens.old tokens.new result }
     ensures few { Few schema.new }
+    ensures text { schema.new.tree.text.now ≡ schema.old.tree.text.now }
 {
     let Name { name, place } = tokens.name()?;
     if schema.types.len() >= MOST_TYPES {
@@ -103,23 +108,28 @@ fn contents<'a>(
     kind: TypeKind,
     schema: &mut Schema<'a>,
 ) -> Result<Span, Fault>
-    requires { Few schema.old }
-    ensures onward { IfOk result (λ _. Onward 0 tokens.old tokens.new) }
-    ensures types { vec_len schema.new.types ≡ vec_len schema.old.types }
+    requires few { Few schema.old }
+    requires text { schema.old.tree.text.now ≡ tokens.old.text.now }
+    ensures told { (l : Label) → Told 0 (λ N. ReadsContents N (counts schema.old) l (sort_of kind)) (ContentsAdded schema.old schema.new l kind) tokens.old tokens.new result }
+    ensures types { schema.new.types ≡ schema.old.types }
     ensures few { Few schema.new }
+    ensures text { schema.new.tree.text.now ≡ schema.old.tree.text.now }
 {
-    if kind == TypeKind::Enum || kind == TypeKind::Input {
-        tokens.expect(Token::OpenBrace)?;
-    }
     match kind {
-        TypeKind::Enum => enum_values(tokens, &mut schema.values),
-        TypeKind::Input => fields(
-            tokens,
-            Token::CloseBrace,
-            MOST_FIELDS,
-            &mut schema.fields,
-            &mut schema.tree.nodes,
-        ),
+        TypeKind::Enum => {
+            tokens.expect(Token::OpenBrace)?;
+            enum_values(tokens, &mut schema.values)
+        }
+        TypeKind::Input => {
+            tokens.expect(Token::OpenBrace)?;
+            fields(
+                tokens,
+                Token::CloseBrace,
+                MOST_FIELDS,
+                &mut schema.fields,
+                &mut schema.tree.nodes,
+            )
+        }
         TypeKind::Scalar | TypeKind::Output => Ok(Span::EMPTY),
     }
 }
@@ -208,27 +218,19 @@ fn fields<'a>(
 
 // The definition of a directive, whose keyword was read.
 fn directive<'a>(tokens: &mut Tokens<'a>, schema: &mut Schema<'a>) -> Result<(), Fault>
-    requires { Few schema.old }
-    ensures onward { IfOk result (λ _. Onward 1 tokens.old tokens.new) }
+    requires few { Few schema.old }
+    requires text { schema.old.tree.text.now ≡ tokens.old.text.now }
+    ensures told { Told 1 (λ N. ReadsDirective N (counts schema.old)) (λ _ d. Added schema.old schema.new d) tokens.old tokens.new result }
     ensures few { Few schema.new }
+    ensures text { schema.new.tree.text.now ≡ schema.old.tree.text.now }
 {
     tokens.expect(Token::At)?;
     let Name { name, place } = tokens.name()?;
     if schema.directives.len() >= MOST_DIRECTIVES {
         return Err(Fault::NoSpace(place));
     }
-    let arguments = match tokens.eat(Token::OpenParen)? {
-        Some(_) => fields(
-            tokens,
-            Token::CloseParen,
-            MOST_ARGUMENTS,
-            &mut schema.arguments,
-            &mut schema.tree.nodes,
-        )?,
-        None => Span::EMPTY,
-    };
-    let repeatable = tokens.eat(Token::Name(b"repeatable"))?.is_some();
-    tokens.expect(Token::Name(b"on"))?;
+    let arguments = arguments(tokens, &mut schema.arguments, &mut schema.tree.nodes)?;
+    let repeatable = is_repeatable(tokens)?;
     let locations = locations(tokens)?;
     schema.directives.push(Directive {
         name,
@@ -238,6 +240,32 @@ fn directive<'a>(tokens: &mut Tokens<'a>, schema: &mut Schema<'a>) -> Result<(),
         repeatable,
     })?;
     Ok(())
+}
+
+// The arguments of a directive, if it has any: where they stand.
+fn arguments<'a>(
+    tokens: &mut Tokens<'a>,
+    table: &mut Vec<Field<'a>>,
+    nodes: &mut Nodes,
+) -> Result<Span, Fault>
+    requires { vec_len table.old ≤ 256 }
+    ensures told { Told 0 (λ N. ReadsArguments N (vec_len table.old)) (FieldsAdded (table_of tokens.old.text.now nodes.old) (table_of tokens.old.text.now nodes.new) table.old.items table.new.items) tokens.old tokens.new result }
+    ensures few { vec_len table.new ≤ 256 }
+{
+    let from = table.len();
+    match tokens.eat(Token::OpenParen)? {
+        Some(_) => fields(tokens, Token::CloseParen, MOST_ARGUMENTS, table, nodes),
+        None => Ok(Span { from, to: from }),
+    }
+}
+
+// Whether a directive is repeatable, with the `on` after that.
+fn is_repeatable(tokens: &mut Tokens<'_>) -> Result<bool, Fault>
+    ensures { Told 0 (λ N. ReadsManner N) Itself tokens.old tokens.new result }
+{
+    let repeatable = tokens.eat(Token::Name(b"repeatable"))?.is_some();
+    tokens.expect(Token::Name(b"on"))?;
+    Ok(repeatable)
 }
 
 // The locations that come next, at least one, with a `|` between them; one may stand before the first.
@@ -261,7 +289,8 @@ fn locations(tokens: &mut Tokens<'_>) -> Result<Locations, Fault>
 
 // Finds what the types of all fields and arguments stand for, once all types are declared.
 fn resolve(schema: &mut Schema<'_>)
-    ensures { Few schema.old → Few schema.new }
+    ensures few { Few schema.old → Few schema.new }
+    ensures holds { (D : Document) → HeldBy unknown schema.old D → Holds schema.new D }
 {
     resolve_in(schema.types.as_slice(), &mut schema.fields);
     resolve_in(schema.types.as_slice(), &mut schema.arguments);
@@ -269,7 +298,8 @@ fn resolve(schema: &mut Schema<'_>)
 
 // Finds what the types of the fields stand for, where these types are declared.
 fn resolve_in(types: &[TypeDef<'_>], fields: &mut Vec<Field<'_>>)
-    ensures { vec_len fields.new ≡ vec_len fields.old }
+    ensures len { vec_len fields.new ≡ vec_len fields.old }
+    ensures held { (T : Table) (ds : List Declared) → Each (FieldHeld unknown T) fields.old.items ds → Each (FieldHeld (base_by (map type_row_of types.now)) T) fields.new.items ds }
 {
     for field in fields.iter_mut() {
         field.ty = field.ty.of(base_among(types, field.ty.name));
