@@ -85,6 +85,7 @@ to_row {D} (cycle_at {d = d} i a c e) =
     (n.0, d, n.1.0, (cycle_numbered (schema_of D) n.0 _ n.1.1).0 c, e)
 
 pub cycle_by_row : (D : Document) (p : ℕ) → CycleAt D p ↔ ByRow D p
-cycle_by_row D p =
-    ( to_row
-    , λ r. let k = declares D r.0 r.1 r.2 in cycle_at k.2 k.3 ((cycle_numbered (schema_of D) r.0 _ k.4).1 r.3) r.4)
+cycle_by_row D p = (
+  to_row,
+  λ r. let k = declares D r.0 r.1 r.2 in cycle_at k.2 k.3 ((cycle_numbered (schema_of D) r.0 _ k.4).1 r.3) r.4,
+)
