@@ -1,5 +1,5 @@
 -- The rows that the definitions of a schema make, in the order of the text, without references.
-use Rattle.std.specs.Prelude.{ℕ, suc, ◌+◌, Bool, cond, List, [], ◌∷◌, ◌++◌, length, codes}
+use Rattle.std.specs.Prelude.{ℕ, zero, suc, ◌+◌, Bool, cond, List, [], ◌∷◌, ◌++◌, length, codes}
 use Rattle.model.specs.Values.{Name, same, Location}
 use Rattle.source.specs.declared.raw.Span.{Span}
 use Rattle.schema.specs.declared.definition.TypeKind.{TypeKind}
@@ -40,6 +40,11 @@ pub record DirectiveRow : Type 0 where
   pub arguments : Span
   pub locations : List Location
   pub repeatable : Bool
+
+-- the span of n arguments after `from` others; of none it is empty
+abbrev pub argument_span : (from n : ℕ) → Span
+argument_span from zero = span 0 0
+argument_span from (suc n) = span from (suc n)
 
 -- after a arguments
 abbrev pub directive_row : (a : ℕ) → Definition → List DirectiveRow
