@@ -4,6 +4,7 @@ pub mod Defining
 pub mod Eating
 pub mod Entering
 pub mod Listing
+pub mod OperationLaws
 pub mod OperationRows
 pub mod OperationSteps
 pub mod Placing
@@ -14,5 +15,6 @@ pub mod Rowing
 pub mod Seeing
 pub mod Spanning
 pub mod Taking
+pub mod TypeLaws
 pub mod TypeSteps
 pub mod Whole

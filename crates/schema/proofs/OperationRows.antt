@@ -2,7 +2,7 @@
 use Rattle.std.proofs.Common.{◌≡◌, ℕ, ◌+◌, ◌≤◌, ◌<◌, List, [], ◌∷◌, ◌++◌, map, length, Ok, Err, Result, sym, refl, ap, ap₂, ◌∙◌, subst, ⊎_elim, append_assoc, append-nil, arith}
 use Rattle.std.proofs.lemmas.Bool.{cases_lt}
 use Rattle.std.proofs.lemmas.List.{length-append, map-append}
-use Rattle.model.specs.Values.{Argument, Use}
+use Rattle.model.specs.Values.{Use}
 use Rattle.text.specs.declared.fault.Fault.{Fault}
 use Rattle.text.specs.declared.language.Language.TheVariants.{Graphql}
 use Rattle.reader.specs.Tokens.{Sight, Sights}
@@ -10,7 +10,7 @@ use Rattle.reader.specs.Reading.{Out, got, fails}
 use Rattle.schema.specs.declared.operation.Use.{Use as UseIn}
 use Rattle.schema.specs.declared.tokens.Tokens.{Tokens}
 use Rattle.schema.specs.Documents.{Kind, VariableDefinition, OperationDocument}
-use Rattle.schema.specs.HoldsOperation.{UseRow, use_row, use_rows_from, use_row_of, arguments_in}
+use Rattle.schema.specs.HoldsOperation.{use_row, use_rows_from, use_row_of, arguments_in}
 use Rattle.schema.specs.OperationReading.{a_kind, ReadsName, ReadsVariables, ReadsUses, ReadsOperationFrom, ReadsOperation, operation_read}
 use Rattle.schema.specs.Outcomes.{Takes}
 use Rattle.schema.specs.Told.{sights}

@@ -5,7 +5,7 @@ use Rattle.std.proofs.lemmas.Bool.Decides.{nat_tests}
 use Rattle.text.specs.declared.fault.Fault.{Fault}
 use Rattle.text.specs.declared.fault.Fault.TheVariants.{NoSpace}
 use Rattle.reader.specs.Tokens.{Sight, sees}
-use Rattle.reader.specs.Reading.{Out, got, fails}
+use Rattle.reader.specs.Reading.{got, fails}
 use Rattle.model.specs.Values.{Name, Argument}
 use Rattle.source.specs.Table.{Table, Keeps}
 use Rattle.source.proofs.Keeping.{stands_kept}

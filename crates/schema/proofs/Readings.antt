@@ -10,7 +10,7 @@ use Rattle.schema.specs.Outcomes.{Goes, Then, Gives, Maps, Sees, Takes, taken, C
 abbrev pub One : {X : Type 0} → (ℕ → Out X → Type 0) → Type 0
 One {X} R = (i : ℕ) (o p : Out X) → R i o → R i p → o ≡ p
 
-goes_once : {X Y : Type 0} (B : X → ℕ → Out Y → Type 0) → ((x : X) → One (B x)) → (q : Out X) (o p : Out Y) → Goes B q o → Goes B q p → o ≡ p
+pub goes_once : {X Y : Type 0} (B : X → ℕ → Out Y → Type 0) → ((x : X) → One (B x)) → (q : Out X) (o p : Out Y) → Goes B q o → Goes B q p → o ≡ p
 goes_once B b (got j x) o p g h = b x j o p g h
 goes_once B b (fails f) o p g h = sym g ∙ h
 

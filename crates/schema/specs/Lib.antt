@@ -13,6 +13,7 @@ pub mod OperationTold
 pub mod Outcomes
 pub mod Ranges
 pub mod Reading
+pub mod ReadingLaws
 pub mod Rows
 pub mod SchemaGrammar
 pub mod SchemaReading

@@ -1,6 +1,6 @@
 -- What reading an operation comes to: its kind, variables and uses, or the fault that comes first.
-use Rattle.std.specs.Prelude.{ℕ, ◌<◌, ◌≤◌, ◌≡◌, Bool, true, false, List, [], ◌∷◌, length, codes}
-use Rattle.std.proofs.Math.Option.{Option, none, some}
+use Rattle.std.specs.Prelude.{ℕ, ◌<◌, ◌≤◌, Bool, true, false, List, [], ◌∷◌, length, codes}
+use Rattle.std.proofs.Math.Option.{Option, none}
 use Rattle.model.specs.Values.{Name, Argument, Use}
 use Rattle.text.specs.declared.fault.Fault.TheVariants.{BadText}
 use Rattle.text.specs.declared.language.Language.TheVariants.{Graphql}

@@ -23,6 +23,15 @@ name_at w s = record { ty = named true w; place = s }
 abbrev pub list_at : Typed → Typed
 list_at t = record { ty = list_of true t.ty; place = t.place }
 
+abbrev pub is_list_type : Ty → Bool
+is_list_type (named b w) = false
+is_list_type (list_of b t) = true
+
+-- the type of a list's items; of a type that is no list, the type itself
+abbrev pub item_of : Ty → Ty
+item_of (named b w) = named b w
+item_of (list_of b t) = t
+
 -- how many lists stand around the name
 abbrev pub levels_of : Ty → ℕ
 levels_of (named b w) = 0

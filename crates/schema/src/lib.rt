@@ -5,6 +5,7 @@ pub mod cursor;
 pub mod declaration;
 pub mod definition;
 pub mod document;
+pub mod laws;
 pub mod layer;
 pub mod location;
 pub mod operation;

@@ -1,5 +1,5 @@
 // Operations: the variables that a text defines, and its uses of directives.
-ghost use Rattle.std.specs.Prelude.{◌≡◌, ◌<◌, ◌≤◌, map, IfOk, vec_len};
+ghost use Rattle.std.specs.Prelude.{◌≡◌, ◌<◌, ◌≤◌, map, slice_get, IfOk, MatchOption, Some, None, vec_len};
 ghost use Rattle.lookup.specs.First.{First};
 ghost use Rattle.source.specs.Table.{table_of};
 ghost use Rattle.schema.specs.Documents.{Document};
@@ -7,6 +7,7 @@ ghost use Rattle.schema.specs.Holds.{Holds};
 ghost use Rattle.schema.specs.OperationReading.{a_kind, ReadsName, ReadsAfterDollar, ReadsVariableList, ReadsVariables, ReadsAfterAt, ReadsUseArguments, ReadsArgumentList};
 ghost use Rattle.schema.specs.OperationTold.{KindIs, BeginsTold, VariableRead, VariablesRead, UseRead, ArgumentsAdded, OperationTold};
 ghost use Rattle.schema.specs.Rows.{base_in};
+ghost use Rattle.schema.specs.Spans.{rows_in};
 ghost use Rattle.schema.specs.Outcomes.{Takes};
 ghost use Rattle.schema.specs.Reading.{Onward};
 ghost use Rattle.schema.specs.Told.{Told, Itself, Spelled};
@@ -111,7 +112,9 @@ impl<'a> Operation<'a> {
         self.variables.len()
     }
 
-    pub fn variable(&self, index: usize) -> Option<&Variable<'a>> {
+    pub fn variable(&self, index: usize) -> Option<&Variable<'a>>
+        ensures { MatchOption result (slice_get self.now.variables.items index ≡ None) (λ v. slice_get self.now.variables.items index ≡ Some v.now) }
+    {
         self.variables.get(index)
     }
 
@@ -123,12 +126,17 @@ impl<'a> Operation<'a> {
     }
 
     // The arguments of a use.
-    pub fn arguments_of(&self, directive_use: &Use<'_>) -> &[Argument<'a>] {
+    pub fn arguments_of(&self, directive_use: &Use<'_>) -> &[Argument<'a>]
+        ensures { result.now ≡ rows_in self.now.arguments.items directive_use.now.arguments }
+    {
         between(self.arguments.as_slice(), directive_use.arguments)
     }
 
     // The default or the argument's value that stands at a cursor.
-    pub fn literal(&self, at: usize) -> Literal<'_, 'a> {
+    pub fn literal(&self, at: usize) -> Literal<'_, 'a>
+        ensures tree { result.tree.now ≡ self.now.tree }
+        ensures root { result.root ≡ at }
+    {
         Literal::new(&self.tree, at)
     }
 }

@@ -1,0 +1,5 @@
+use Rattle.schema.proofs.OperationLaws.{one_outcome, as_written, shapes}
+use Rattle.schema.proofs.laws.one_outcome.Goals as goal
+
+pub returns : goal.returns
+returns c = record { once = one_outcome; written = as_written; shapes = shapes }
