@@ -12,6 +12,7 @@ pub mod RangeLaws
 pub mod Readings
 pub mod Resolving
 pub mod Rowing
+pub mod SchemaLaws
 pub mod Seeing
 pub mod Spanning
 pub mod Taking

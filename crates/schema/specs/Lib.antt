@@ -16,6 +16,7 @@ pub mod Reading
 pub mod ReadingLaws
 pub mod Rows
 pub mod SchemaGrammar
+pub mod SchemaLaws
 pub mod SchemaReading
 pub mod SchemaTold
 pub mod Spans

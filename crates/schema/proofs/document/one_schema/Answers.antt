@@ -1,0 +1,5 @@
+use Rattle.schema.proofs.SchemaLaws.{one_schema}
+use Rattle.schema.proofs.document.one_schema.Goals as goal
+
+pub returns : goal.returns
+returns c = one_schema
