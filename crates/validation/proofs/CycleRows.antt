@@ -66,7 +66,7 @@ split_row l (x ∷ ds) rest more (suc i) d e = ⊎_elim (λ w. inl (within_later
 declares_later : (x : Definition) (D : Document) (i j : ℕ) (d : Declared) → ((G : InputField) → nth (input_fields (schema_of D)) i ≡ some G → nth (input_fields (schema_of (x ∷ D))) j ≡ some G) → Declares D i d → Declares (x ∷ D) j d
 declares_later x D i j d h k = (k.0, k.1, later k.2, k.3, h _ k.4)
 
-declares : (D : Document) (i : ℕ) (d : Declared) → nth (inputs_in D) i ≡ some d → Declares D i d
+pub declares : (D : Document) (i : ℕ) (d : Declared) → nth (inputs_in D) i ≡ some d → Declares D i d
 declares [] i d e = absurd (none_some e)
 declares (a_scalar m ∷ D) i d e = declares_later (a_scalar m) D i i d (λ G q. q) (declares D i d e)
 declares (an_enum m vs ∷ D) i d e = declares_later (an_enum m vs) D i i d (λ G q. q) (declares D i d e)

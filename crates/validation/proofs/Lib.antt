@@ -1,5 +1,11 @@
 pub mod BaseStands
+pub mod CycleFields
+pub mod CycleObjects
 pub mod CycleRows
+pub mod CycleTest
+pub mod CycleTypes
+pub mod CycleValues
+pub mod Handing
 pub mod Least
 pub mod Notes
 pub mod Repeating

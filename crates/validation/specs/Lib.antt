@@ -1,5 +1,6 @@
 pub mod Diagnosed
 pub mod Faults
+pub mod Lacking
 pub mod Literals
 pub mod Making
 pub mod Places

@@ -1,8 +1,12 @@
 -- The tests of a making: which faults lie where, and which of them is told.
 use Rattle.std.specs.Prelude.{◌≡◌, ℕ, ◌≤◌, ◌⊎◌, true, List, [], ◌∷◌, ◌++◌, Some, None, Option, codes}
-use Rattle.model.specs.Values.{Name, has, output_d, TypeDef, find}
+use Rattle.std.proofs.Math.Option.{some}
+use Rattle.model.specs.Values.{Name, Raw, has, output_d, TypeDef, find}
+use Rattle.model.specs.Limits.{RawLimits}
+use Rattle.model.specs.Back.{Distinct, Proper}
 use Rattle.model.specs.Checking.{inner}
 use Rattle.model.specs.Cycles.{Among, OnCycle}
+use Rattle.model.specs.CycleLaws.{type_names}
 use Rattle.schema.specs.Documents.{Label, Declared, Definition, a_scalar, an_enum, an_input, an_output, a_directive, Document, field_of, types_in, schema_of}
 use Rattle.schema.specs.SchemaReading.{inputs_in, arguments_in}
 
@@ -89,3 +93,11 @@ pub data NameTwiceAt (D : Document) : ℕ → Type 0 where
 -- at p an input field is named that leads back to itself by the coercion of its default
 pub data CycleAt (D : Document) (p : ℕ) : Type 0 where
   cycle_at : {l : Label} {ds : List Declared} {d : Declared} → Among (an_input l ds) D → Among d ds → OnCycle (schema_of D) (record { owner = l.name; field = field_of d }) → d.label.place ≡ p → CycleAt D p
+
+-- no type's name is declared twice, and no input type has two fields of one name
+abbrev pub NamesApart : Document → Type 0
+NamesApart D = Distinct (type_names (types_in D)) × Proper (schema_of D)
+
+-- each default is within the limits of a source; no member's name stands twice in one
+abbrev pub Sourced : Document → Type 0
+Sourced D = (d : Declared) → Input D d → (x : Raw) → d.dflt ≡ some x → RawLimits 0 x
