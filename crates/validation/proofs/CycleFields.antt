@@ -1,9 +1,9 @@
 -- What the fields of an object lack, row by row
-use Rattle.std.proofs.Common.{◌≡◌, ℕ, zero, suc, ◌+◌, ◌<◌, ◌≤◌, ◌⊎◌, ◌↔◌, Bool, true, false, List, [], ◌∷◌, length, get_or, ltb, vec_items, Some, None, Option as RustOption, is_some, cond, ◌||◌, ◌&&◌, ◌==◌, inl, inr, ⊎_elim, sym, refl, ap, ◌∙◌, subst, arith, tests}
+use Rattle.std.proofs.Common.{◌≡◌, ℕ, zero, suc, ◌+◌, ◌<◌, ◌≤◌, ◌⊎◌, Bool, true, false, List, [], ◌∷◌, length, get_or, ltb, vec_items, Some, None, Option as RustOption, is_some, cond, ◌||◌, ◌&&◌, ◌==◌, inl, inr, ⊎_elim, sym, refl, ap, ◌∙◌, subst, arith, tests}
 use Rattle.std.proofs.lemmas.Bool.{cases_lt, both_ways}
 use Rattle.std.proofs.lemmas.List.{length-append}
 use mathlib.Core.Option.{Option, none, some}
-use Rattle.model.specs.Values.{Name, Raw, Raws, Mems, object, Ty, named, Field, input_d, find}
+use Rattle.model.specs.Values.{Name, Raw, Mems, Field}
 use Rattle.model.specs.Coercion.{member}
 use Rattle.model.specs.Cycles.{InputField, owned, of_types, input_fields, nth}
 use Rattle.model.proofs.CyNumbers.{one_some, none_some, nth_below}

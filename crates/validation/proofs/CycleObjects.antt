@@ -1,7 +1,7 @@
 -- What an object of an input type lacks, by the rows of the type's fields
-use Rattle.std.proofs.Common.{◌≡◌, ℕ, zero, suc, ◌+◌, ◌-◌, ◌<◌, ◌≤◌, ◌⊎◌, true, List, [], ◌∷◌, length, map, get_or, vec_items, inl, inr, ⊎_elim, sym, refl, ap, ◌∙◌, subst, arith}
-use mathlib.Core.Option.{Option, none, some}
-use Rattle.model.specs.Values.{Name, Raw, Mems, object, named, Field, input_d, find}
+use Rattle.std.proofs.Common.{◌≡◌, ℕ, zero, suc, ◌+◌, ◌-◌, ◌<◌, ◌≤◌, true, List, [], ◌∷◌, length, map, get_or, vec_items, inl, inr, ⊎_elim, sym, refl, ap, ◌∙◌, subst, arith}
+use mathlib.Core.Option.{none, some}
+use Rattle.model.specs.Values.{Name, Mems, object, named, Field, input_d, find}
 use Rattle.model.specs.Coercion.{member}
 use Rattle.model.specs.Cycles.{InputField, Among, first, later, input_fields, nth}
 use Rattle.model.proofs.CyMeets.{object_lacks, field_lacks}
@@ -9,16 +9,14 @@ use Rattle.model.proofs.CyNumbers.{one_some, none_some, nth_below}
 use Rattle.model.proofs.CyNever.{one_input}
 use Rattle.model.proofs.CyOnce.{numbered_once}
 use Rattle.relation.specs.declared.row.Row.{Row}
-use Rattle.source.specs.declared.raw.Span.{Span}
 use Rattle.schema.specs.declared.definition.TypeDef.{TypeDef}
 use Rattle.schema.specs.declared.definition.Schema.{Schema}
 use Rattle.schema.specs.declared.types.Base.TheVariants.{Input}
 use Rattle.schema.specs.Documents.{Declared, Document, field_of, fields_in, schema_of}
-use Rattle.schema.specs.SchemaReading.{inputs_in}
 use Rattle.schema.specs.Rows.{TypeRow, type_rows, base_in}
 use Rattle.schema.specs.Holds.{Holds, type_row_of}
 use Rattle.validation.specs.Making.{NamesApart}
-use Rattle.validation.specs.Lacking.{LacksRow, FieldLacksRow, Adds}
+use Rattle.validation.specs.Lacking.{LacksRow, Adds}
 use Rattle.validation.proofs.CycleTypes.{InputType, input_type}
 use Rattle.validation.proofs.CycleValues.{adds_as}
 use Rattle.validation.proofs.CycleFields.{FieldsLackRow, nth_within}

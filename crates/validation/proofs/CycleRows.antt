@@ -1,12 +1,12 @@
 -- The rows of input fields, and their numbers
-use Rattle.std.proofs.Common.{◌≡◌, ℕ, zero, suc, ◌+◌, ◌⊎◌, ◌↔◌, List, [], ◌∷◌, ◌++◌, length, inl, inr, sym, refl, ap, ◌∙◌, subst, ⊎_elim, arith}
-use mathlib.Core.Option.{Option, none, some}
-use Rattle.model.specs.Values.{Name, Field, Def, TypeDef, Schema}
+use Rattle.std.proofs.Common.{◌≡◌, ℕ, zero, suc, ◌⊎◌, ◌↔◌, List, [], ◌∷◌, ◌++◌, inl, inr, refl, subst, ⊎_elim}
+use mathlib.Core.Option.{some}
+use Rattle.model.specs.Values.{Name}
 use Rattle.model.specs.Paths.{Steps}
-use Rattle.model.specs.Cycles.{InputField, Among, first, later, OnCycle, owned, of_def, of_types, input_fields, nth, LeadsByNumber}
-use Rattle.model.proofs.CyNumbers.{one_some, none_some, numbered, cycle_numbered}
-use Rattle.schema.specs.Documents.{Label, Declared, Definition, a_scalar, an_enum, an_input, an_output, a_directive, Document, field_of, fields_in, type_of, types_in, schema_of}
-use Rattle.schema.specs.SchemaReading.{inputs_of, inputs_in}
+use Rattle.model.specs.Cycles.{InputField, Among, first, later, owned, of_types, input_fields, nth, LeadsByNumber}
+use Rattle.model.proofs.CyNumbers.{one_some, none_some, cycle_numbered}
+use Rattle.schema.specs.Documents.{Label, Declared, Definition, a_scalar, an_enum, an_input, an_output, a_directive, Document, field_of, fields_in, types_in, schema_of}
+use Rattle.schema.specs.SchemaReading.{inputs_in}
 use Rattle.validation.specs.Making.{CycleAt, cycle_at}
 
 -- number i is that of a declared field, and of the same among the schema's input fields

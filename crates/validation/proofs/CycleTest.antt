@@ -3,24 +3,23 @@ use Rattle.std.proofs.Common.{◌≡◌, ℕ, zero, suc, ◌+◌, ◌<◌, ◌�
 use Rattle.std.proofs.lemmas.Bool.{cases_lt, both_ways}
 use mathlib.Core.Option.{Option, none, some}
 use Rattle.model.specs.Values.{Raw, end, Ty, Field}
-use Rattle.model.specs.Limits.{RawLimits}
 use Rattle.model.specs.Paths.{Steps}
 use Rattle.model.specs.Cycles.{InputField, Among, first, later, Lacks, leads as a_lead, input_fields, nth, LeadsByNumber, by_number}
 use Rattle.model.proofs.CyPaths.{steps_same}
 use Rattle.model.proofs.CyNumbers.{one_some, none_some, nth_below}
 use Rattle.relation.specs.declared.row.Row.{Row}
 use Rattle.relation.specs.Relating.{leads}
-use Rattle.source.specs.Table.{tree_table, Stands, Held}
+use Rattle.source.specs.Table.{tree_table, Held}
 use Rattle.schema.specs.declared.definition.Field.{Field as FieldRow}
 use Rattle.schema.specs.declared.definition.Schema.{Schema}
-use Rattle.schema.specs.Documents.{Declared, Document, field_of, schema_of}
+use Rattle.schema.specs.Documents.{Declared, Document, schema_of}
 use Rattle.schema.specs.SchemaReading.{inputs_in}
 use Rattle.schema.specs.Holds.{DefaultHeld, Holds, typed_of}
 use Rattle.validation.specs.Making.{FirstFault, CycleAt, NamesApart, Sourced}
 use Rattle.validation.specs.Places.{lesser_of}
 use Rattle.validation.specs.Lacking.{LacksRow, Adds, CyclesBefore}
 use Rattle.validation.proofs.Least.{first_as, first_lesser, first_one}
-use Rattle.validation.proofs.CycleRows.{ByRow, cycle_by_row}
+use Rattle.validation.proofs.CycleRows.{cycle_by_row}
 use Rattle.validation.proofs.CycleFields.{There, there, type_at, length_inputs, each_length}
 
 -- THE FIRST

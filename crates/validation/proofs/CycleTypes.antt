@@ -1,18 +1,16 @@
 -- The input object type that a base names: its row, its fields and their numbers
-use Rattle.std.proofs.Common.{◌≡◌, ℕ, zero, suc, ◌+◌, Bool, true, false, cond, List, [], ◌∷◌, ◌++◌, length, codes, sym, refl, ap, ◌∙◌, subst, arith}
+use Rattle.std.proofs.Common.{◌≡◌, ℕ, zero, suc, ◌+◌, Bool, true, false, cond, List, [], ◌∷◌, ◌++◌, length, codes, refl, ap, ◌∙◌, subst, arith}
 use Rattle.std.proofs.lemmas.Bool.{cond-true, cond-false}
 use mathlib.Core.Option.{Option, none, some}
-use Rattle.model.specs.Values.{Name, same, Field, Def, int_d, float_d, string_d, boolean_d, id_d, enum_d, input_d, custom_d, output_d, TypeDef, Schema, declared, find}
-use Rattle.model.specs.Cycles.{InputField, owned, of_types, input_fields, nth}
+use Rattle.model.specs.Values.{Name, same, Field, Def, int_d, float_d, string_d, boolean_d, id_d, enum_d, input_d, custom_d, output_d, declared, find}
+use Rattle.model.specs.Cycles.{InputField, owned, of_types, nth}
 use Rattle.model.proofs.CoNames.{same_true}
-use Rattle.source.specs.declared.raw.Span.{Span}
-use Rattle.schema.specs.declared.definition.TypeKind.{TypeKind}
-use Rattle.schema.specs.declared.definition.TypeKind.TheVariants.{Scalar as ScalarKind, Enum as EnumKind, Input as InputKind, Output as OutputKind}
+use Rattle.schema.specs.declared.definition.TypeKind.TheVariants.{Input as InputKind}
 use Rattle.schema.specs.declared.types.Base.{Base}
 use Rattle.schema.specs.declared.types.Base.TheVariants.{Int, Float, String, Boolean, Id, Custom, Enum, Input, Output, Unknown}
 use Rattle.schema.specs.Documents.{Label, Declared, Definition, a_scalar, an_enum, an_input, an_output, a_directive, Document, field_of, fields_in, types_in, schema_of}
-use Rattle.schema.specs.Rows.{TypeRow, span, type_rows_from, type_rows, base_of, base_among, base_in}
-use Rattle.schema.specs.SchemaReading.{values_of, inputs_of, inputs_in}
+use Rattle.schema.specs.Rows.{TypeRow, span, type_rows_from, type_rows, base_among, base_in}
+use Rattle.schema.specs.SchemaReading.{inputs_of, inputs_in}
 
 -- which row a base names, if it names an input object type
 abbrev input_row : Base → ℕ

@@ -1,11 +1,9 @@
 -- What a value lacks, by its kind and its type
-use Rattle.std.proofs.Common.{◌≡◌, ℕ, zero, suc, ◌-◌, ◌<◌, ◌⊎◌, ◌↔◌, Bool, true, false, List, nat_lt, not, get_or, inl, inr, ⊎_elim, sym, refl, ap, ◌∙◌, subst, arith, tests}
-use mathlib.Core.Option.{Option, none, some}
-use Rattle.model.specs.Values.{Name, boolean, whole, decimal, string, symbol, Raw, Raws, Mems, null, scalar, variable, list, object, nil, cons, Ty, named, list_of, Field, input_d, find}
-use Rattle.model.specs.Cycles.{Lacks, LacksIn, l_items, l_first, l_later}
+use Rattle.std.proofs.Common.{◌≡◌, ℕ, zero, suc, ◌-◌, Bool, true, false, List, nat_lt, not, get_or, inl, inr, ⊎_elim, sym, refl, ap, ◌∙◌, subst, arith, tests}
+use Rattle.model.specs.Values.{Name, boolean, whole, decimal, string, symbol, Raw, Raws, Mems, null, scalar, variable, list, object, nil, cons, Ty, named, list_of, Field}
+use Rattle.model.specs.Cycles.{Lacks, l_items, l_first, l_later}
 use Rattle.model.proofs.CyMeets.{null_lacks, scalar_lacks, variable_lacks, list_lacks, lacks_items, in_alone, in_cons, none_in_nil, object_lacks, field_lacks}
 use Rattle.relation.specs.declared.row.Row.{Row}
-use Rattle.relation.specs.Relating.{leads}
 use Rattle.source.specs.Heads.{kind_of}
 use Rattle.source.specs.declared.raw.Kind.TheVariants.{List as ListKind, Object as ObjectKind}
 use Rattle.schema.specs.declared.types.Base.{Base}
@@ -14,9 +12,8 @@ use Rattle.schema.specs.declared.types.«Type».{«Type» as TypeIn}
 use Rattle.schema.specs.declared.definition.Schema.{Schema}
 use Rattle.schema.specs.Documents.{Document, schema_of}
 use Rattle.schema.specs.Rows.{base_in}
-use Rattle.schema.specs.Holds.{Holds, typed_of}
+use Rattle.schema.specs.Holds.{typed_of}
 use Rattle.schema.specs.Types.{ty_from}
-use Rattle.validation.specs.Making.{NamesApart}
 use Rattle.validation.proofs.CycleTypes.{input_named}
 use Rattle.validation.specs.Lacking.{LacksRow, LacksRowIn, Adds, ValueTold, ItemsTold, ObjectTold}
 

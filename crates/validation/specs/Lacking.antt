@@ -1,9 +1,9 @@
 -- What the rows of the relation between fields are to hold: what the default of a field lacks.
 use Rattle.std.specs.Prelude.{◌≡◌, ℕ, ◌<◌, ◌⊎◌, ◌↔◌, true, List, get_or}
 use Rattle.std.proofs.Math.Option.{none, some}
-use Rattle.model.specs.Values.{Name, Raw, Raws, Mems, list, object, Ty, named, Field, input_d, find}
+use Rattle.model.specs.Values.{Name, Raw, Raws, Mems, list, object, Ty, named}
 use Rattle.model.specs.Coercion.{member}
-use Rattle.model.specs.Cycles.{InputField, Among, Lacks, LacksIn, input_fields, nth}
+use Rattle.model.specs.Cycles.{InputField, Lacks, LacksIn, input_fields, nth}
 use Rattle.relation.specs.declared.row.Row.{Row}
 use Rattle.relation.specs.Relating.{leads}
 use Rattle.schema.specs.declared.types.Base.TheVariants.{Input}
