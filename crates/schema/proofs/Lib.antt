@@ -13,6 +13,7 @@ pub mod Readings
 pub mod Resolving
 pub mod Rowing
 pub mod SchemaLaws
+pub mod SchemaStanding
 pub mod Seeing
 pub mod Spanning
 pub mod Taking
