@@ -1,4 +1,7 @@
 // Cycles of one number, of several, and of all.
+ghost use Rattle.std.specs.Prelude.{◌≤◌};
+ghost use Rattle.relation.specs.declared.TheConstants.{MOST};
+
 use crate::Relation;
 use std::alloc::{AllocError, Global};
 
@@ -7,10 +10,14 @@ fn first_of(
     heap: Global,
     size: usize,
     pairs: &[(usize, usize)],
-) -> Result<Option<usize>, AllocError> {
+) -> Result<Option<usize>, AllocError>
+    requires { size ≤ MOST }
+{
     let mut relation = Relation::new(heap, size)?;
     for (from, to) in pairs {
-        relation.add(*from, *to);
+        if *from < size && *to < size {
+            relation.add(*from, *to);
+        }
     }
     relation.close();
     Ok(relation.first_to_itself())
@@ -40,18 +47,21 @@ fn the_first_on_a_cycle(rt: HostRuntime) {
     );
 }
 
-// One chain of all numbers, and then one cycle of them.
-#[test]
-fn all_numbers(rt: HostRuntime) {
-    let heap = rt.alloc();
-    let mut relation = Relation::new(heap, 70).unwrap();
+// One chain of all numbers, and then one cycle of them: the first number on it before and after, and whether 64 leads to 65.
+fn chained(heap: Global) -> Result<(Option<usize>, Option<usize>, bool), AllocError> {
+    let mut relation = Relation::new(heap, 70)?;
     for number in 1..70 {
         relation.add(number, number - 1);
     }
     relation.close();
-    assert_eq!(rt; relation.first_to_itself(), None);
+    let before = relation.first_to_itself();
     relation.add(0, 69);
     relation.close();
-    assert_eq!(rt; relation.first_to_itself(), Some(0));
-    assert!(rt; relation.leads(64, 65));
+    Ok((before, relation.first_to_itself(), relation.leads(64, 65)))
+}
+
+#[test]
+fn all_numbers(rt: HostRuntime) {
+    let heap = rt.alloc();
+    assert_eq!(rt; chained(heap), Ok((None, Some(0), true)));
 }
