@@ -9,6 +9,7 @@ pub mod OperationRows
 pub mod OperationSteps
 pub mod Placing
 pub mod RangeLaws
+pub mod ReadLaws
 pub mod Readings
 pub mod Resolving
 pub mod Rowing
@@ -20,3 +21,4 @@ pub mod Taking
 pub mod TypeLaws
 pub mod TypeSteps
 pub mod Whole
+pub mod WrittenLaws

@@ -46,23 +46,23 @@ module _ (N : ℕ → Sight → Type 0) (one : (i : ℕ) (v w : Sight) → N i v
 
   module _ {S X : Type 0} (closes : Lexical → Bool) (step : S → X → S) (A : S → ℕ → Out X → Type 0) (a : (s : S) → One (A s)) where
     -- what follows an item
-    abbrev After : S → Out (List X) → X → ℕ → Type 0
+    abbrev pub After : S → Out (List X) → X → ℕ → Type 0
     After s p x j = (q : Out (List X)) × Items N closes step A true (step s x) j q × (before x q ≡ p)
 
-    abbrev AfterItem : S → Out (List X) → Out X → Type 0
+    abbrev pub AfterItem : S → Out (List X) → Out X → Type 0
     AfterItem s p (got j x) = After s p x j
     AfterItem s p (fails f) = fails f ≡ p
 
-    abbrev end_of : Sight → ℕ
+    abbrev pub end_of : Sight → ℕ
     end_of (sees s e x) = e
     end_of (blind f) = 0
 
     -- what an outcome is, by whether what is seen closes the items
-    abbrev ItemsOn : S → ℕ → Out (List X) → Sight → Bool → Type 0
+    abbrev pub ItemsOn : S → ℕ → Out (List X) → Sight → Bool → Type 0
     ItemsOn s i p v true = got (end_of v) [] ≡ p
     ItemsOn s i p v false = (q : Out X) × A s i q × AfterItem s p q
 
-    view : {may : Bool} {s : S} {i : ℕ} {p : Out (List X)} → Items N closes step A may s i p → (v : Sight) → N i v → ItemsOn s i p v (shuts may closes v)
+    pub view : {may : Bool} {s : S} {i : ℕ} {p : Out (List X)} → Items N closes step A may s i p → (v : Sight) → N i v → ItemsOn s i p v (shuts may closes v)
     view {may} {s} {i} {p} (i_shut {b = b} {e = e} {x = x} n h) v m =
         subst (λ w. ItemsOn s i p w (shuts may closes w)) (one i (sees b e x) v n m) (subst (ItemsOn s i p (sees b e x)) (sym h) refl)
     view {may} {s} {i} {p} (i_fails {v = u} {f = f} n h r) v m =

@@ -1,13 +1,15 @@
 -- The laws of the readings of types, declarations and operations.
-use Rattle.std.specs.Prelude.{◌≡◌, ℕ, ◌-◌, ◌≤◌, Bool, false, not, List, get_or, nat_lt}
-use Rattle.model.specs.Values.{Name, nullable}
+use Rattle.std.specs.Prelude.{◌≡◌, ℕ, ◌-◌, ◌≤◌, Bool, false, not, List, [], ◌∷◌, length, get_or, nat_lt}
+use Rattle.std.proofs.Math.Option.{Option, none, some}
+use Rattle.model.specs.Values.{Name, Raw, Argument, Use, nullable}
 use Rattle.text.specs.declared.language.Language.TheVariants.{Graphql}
-use Rattle.text.specs.TokenGrammar.{Mark, bang, Lexical}
+use Rattle.text.specs.TokenGrammar.{Mark, bang, Lexical, a_name}
 use Rattle.reader.specs.Tokens.{Sights, TokenIs}
-use Rattle.reader.specs.Reading.{Out, got, is_mark}
-use Rattle.schema.specs.Declarations.{ReadsDeclared}
-use Rattle.schema.specs.Documents.{Label, Typed, OperationDocument}
+use Rattle.reader.specs.Reading.{Out, got, is_mark, Bounded}
+use Rattle.schema.specs.Declarations.{DeclaredAt, ReadsDeclared}
+use Rattle.schema.specs.Documents.{Label, Typed, Declared, VariableDefinition, OperationDocument}
 use Rattle.schema.specs.Laws.{Once}
+use Rattle.schema.specs.OperationGrammar.{OperationAt}
 use Rattle.schema.specs.OperationReading.{ReadsOperation}
 use Rattle.schema.specs.Types.{ty_from, is_list_type, item_of, levels_of, TypeAt, ReadsType}
 
@@ -16,6 +18,34 @@ pub record OneOutcome : Type 0 where
   pub type : (d : ℕ) → Once (λ N. ReadsType N d)
   pub declared : (l : Label) → Once (λ N. ReadsDeclared N l)
   pub operation : (text : List ℕ) (o p : Out OperationDocument) → ReadsOperation text o → ReadsOperation text p → o ≡ p
+
+-- P of each
+abbrev pub AllOf : {X : Type 0} → (X → Type 0) → List X → Type 0
+AllOf P [] = Unit {0}
+AllOf P (x ∷ xs) = P x × AllOf P xs
+
+-- eight list levels at most, and a literal within the limits at depth 1
+abbrev pub DefaultWithin : Option Raw → Type 0
+DefaultWithin none = Unit {0}
+DefaultWithin (some t) = Bounded false 1 t
+
+abbrev pub DeclaredWithin : Declared → Type 0
+DeclaredWithin d = (levels_of d.typed.ty ≤ 8) × DefaultWithin d.dflt
+
+abbrev pub VariableWithin : VariableDefinition → Type 0
+VariableWithin v = DeclaredWithin v.declared
+
+abbrev pub ArgumentWithin : Argument → Type 0
+ArgumentWithin a = Bounded false 1 a.value
+
+abbrev pub UseWithin : Use → Type 0
+UseWithin u = AllOf ArgumentWithin u.arguments
+
+-- and 64 variables at most
+pub record OperationWithin (D : OperationDocument) : Type 0 where
+  pub count : length D.variables ≤ 64
+  pub variables : AllOf VariableWithin D.variables
+  pub uses : AllOf UseWithin D.uses
 
 -- a token stands next that is no mark m
 pub record Unlike (T : ℕ → ℕ → ℕ → Lexical → Type 0) (m : Mark) (j : ℕ) : Type 0 where
@@ -29,6 +59,9 @@ pub record Unlike (T : ℕ → ℕ → ℕ → Lexical → Type 0) (m : Mark) (j
 pub record AsWritten : Type 0 where
   pub type_read : (text : List ℕ) (d i j : ℕ) (t : Typed) (o : Out Typed) → TypeAt (TokenIs Graphql text) i j t → levels_of t.ty ≤ d → Unlike (TokenIs Graphql text) bang j → ReadsType (Sights Graphql text) d i o → o ≡ got j t
   pub type : (text : List ℕ) (d i j : ℕ) (t : Typed) → ReadsType (Sights Graphql text) d i (got j t) → TypeAt (TokenIs Graphql text) i j t × (levels_of t.ty ≤ d)
+  pub declared : (text : List ℕ) (i e j : ℕ) (l : Label) (d : Declared) → TokenIs Graphql text i l.place e (a_name l.name) → ReadsDeclared (Sights Graphql text) l e (got j d) → DeclaredAt (TokenIs Graphql text) i j d × DeclaredWithin d
+  pub operation : (text : List ℕ) (e : ℕ) (D : OperationDocument) → ReadsOperation text (got e D) → (length text ≤ 65535) × OperationAt (TokenIs Graphql text) e D × OperationWithin D
+  pub operation_read : (text : List ℕ) (e : ℕ) (D : OperationDocument) (o : Out OperationDocument) → length text ≤ 65535 → OperationAt (TokenIs Graphql text) e D → OperationWithin D → ReadsOperation text o → o ≡ got e D
 
 -- what the program asks of a type's marks is what its type says
 pub record Shapes : Type 0 where

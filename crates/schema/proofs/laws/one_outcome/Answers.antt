@@ -1,4 +1,5 @@
-use Rattle.schema.proofs.OperationLaws.{one_outcome, as_written, shapes}
+use Rattle.schema.proofs.OperationLaws.{one_outcome, shapes}
+use Rattle.schema.proofs.ReadLaws.{as_written}
 use Rattle.schema.proofs.laws.one_outcome.Goals as goal
 
 pub returns : goal.returns
