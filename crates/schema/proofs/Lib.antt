@@ -14,6 +14,7 @@ pub mod Readings
 pub mod Resolving
 pub mod Rowing
 pub mod SchemaLaws
+pub mod SchemaLimits
 pub mod SchemaStanding
 pub mod Seeing
 pub mod Spanning

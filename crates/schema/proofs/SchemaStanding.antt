@@ -27,33 +27,33 @@ use Rattle.schema.proofs.TypeLaws.{type_stands, mark_stands}
 
 -- PARTS
 
-record Parts {X Y : Type 0} (A : ℕ → Out X → Type 0) (B : X → ℕ → Out Y → Type 0) (i k : ℕ) (y : Y) : Type 0 where
-  at : ℕ
-  first : X
-  reads : A i (got at first)
-  rest : B first at (got k y)
+pub record Parts {X Y : Type 0} (A : ℕ → Out X → Type 0) (B : X → ℕ → Out Y → Type 0) (i k : ℕ) (y : Y) : Type 0 where
+  pub at : ℕ
+  pub first : X
+  pub reads : A i (got at first)
+  pub rest : B first at (got k y)
 
-parts : {X Y : Type 0} (A : ℕ → Out X → Type 0) (B : X → ℕ → Out Y → Type 0) (i k : ℕ) (y : Y) → Then A B i (got k y) → Parts A B i k y
+pub parts : {X Y : Type 0} (A : ℕ → Out X → Type 0) (B : X → ℕ → Out Y → Type 0) (i k : ℕ) (y : Y) → Then A B i (got k y) → Parts A B i k y
 parts A B i k y (got j x, a, g) = record { at = j; first = x; reads = a; rest = g }
 parts A B i k y (fails f, a, g) = not_got g
 
-got_at : {X : Type 0} {i j : ℕ} {x y : X} → ◌≡◌ {A = Out X} (got i x) (got j y) → i ≡ j
+pub got_at : {X : Type 0} {i j : ℕ} {x y : X} → ◌≡◌ {A = Out X} (got i x) (got j y) → i ≡ j
 got_at e = cc
 
-got_is : {X : Type 0} {i j : ℕ} {x y : X} → ◌≡◌ {A = Out X} (got i x) (got j y) → x ≡ y
+pub got_is : {X : Type 0} {i j : ℕ} {x y : X} → ◌≡◌ {A = Out X} (got i x) (got j y) → x ≡ y
 got_is e = cc
 
-record Mapped {X Y : Type 0} (f : X → Y) (A : ℕ → Out X → Type 0) (i k : ℕ) (y : Y) : Type 0 where
-  value : X
-  reads : A i (got k value)
-  is : f value ≡ y
+pub record Mapped {X Y : Type 0} (f : X → Y) (A : ℕ → Out X → Type 0) (i k : ℕ) (y : Y) : Type 0 where
+  pub value : X
+  pub reads : A i (got k value)
+  pub is : f value ≡ y
 
-mapped : {X Y : Type 0} (f : X → Y) (A : ℕ → Out X → Type 0) (i k : ℕ) (y : Y) → Maps f A i (got k y) → Mapped f A i k y
+pub mapped : {X Y : Type 0} (f : X → Y) (A : ℕ → Out X → Type 0) (i k : ℕ) (y : Y) → Maps f A i (got k y) → Mapped f A i k y
 mapped f A i k y h =
     let p = parts A (λ x. Gives (f x)) i k y h in
     record { value = p.first; reads = subst (λ j. A i (got j p.first)) (got_at p.rest) p.reads; is = got_is p.rest }
 
-room_at : (b : Bool) (i k : ℕ) (f : Fault) (u : Unit {0}) → cond b (got i tt) (fails f) ≡ got k u → i ≡ k
+pub room_at : (b : Bool) (i k : ℕ) (f : Fault) (u : Unit {0}) → cond b (got i tt) (fails f) ≡ got k u → i ≡ k
 room_at true i k f u h = got_at h
 room_at false i k f u h = not_got h
 

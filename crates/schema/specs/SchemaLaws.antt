@@ -1,15 +1,26 @@
 -- The laws of reading a schema.
-use Rattle.std.specs.Prelude.{◌≡◌, ℕ, List}
+use Rattle.std.specs.Prelude.{◌≡◌, ℕ, ◌≤◌, List, length}
 use Rattle.text.specs.declared.language.Language.TheVariants.{Graphql}
 use Rattle.reader.specs.Tokens.{TokenIs}
 use Rattle.reader.specs.Reading.{Out, got}
 use Rattle.schema.specs.SchemaGrammar.{DocumentAt}
-use Rattle.schema.specs.Documents.{Document}
-use Rattle.schema.specs.SchemaReading.{ReadsSchema}
+use Rattle.schema.specs.Documents.{Document, types_in, directives_in}
+use Rattle.schema.specs.SchemaReading.{values_in, inputs_in, arguments_in, ReadsSchema}
 
 -- what is read is what the grammar has
 pub record SchemaStands : Type 0 where
   pub stands : (text : List ℕ) (e : ℕ) (D : Document) → ReadsSchema text (got e D) → DocumentAt (TokenIs Graphql text) e D
+
+-- a document within the limits of its counts
+pub record Within (D : Document) : Type 0 where
+  pub types : length (types_in D) ≤ 256
+  pub values : length (values_in D) ≤ 1024
+  pub inputs : length (inputs_in D) ≤ 1024
+  pub directives : length (directives_in D) ≤ 64
+  pub arguments : length (arguments_in D) ≤ 256
+
+pub record SchemaWithin : Type 0 where
+  pub within : (text : List ℕ) (e : ℕ) (D : Document) → ReadsSchema text (got e D) → Within D
 
 -- a text comes to one document, or to one fault
 pub record OneSchema : Type 0 where

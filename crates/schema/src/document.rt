@@ -8,7 +8,7 @@ ghost use Rattle.schema.specs.Holds.{Each, FieldHeld, HeldBy, Holds, LocationsHe
 ghost use Rattle.schema.specs.Locations.{in_table};
 ghost use Rattle.schema.specs.Rows.{base_by};
 ghost use Rattle.schema.specs.Reading.{Onward};
-ghost use Rattle.schema.specs.SchemaLaws.{OneSchema, SchemaStands};
+ghost use Rattle.schema.specs.SchemaLaws.{OneSchema, SchemaStands, SchemaWithin};
 ghost use Rattle.schema.specs.SchemaReading.{keywords, reserved, ReadsAllLocations, ReadsArguments, ReadsContents, ReadsDirective, ReadsFieldList, ReadsManner, ReadsTypeDefinition, ReadsValueList};
 ghost use Rattle.schema.specs.SchemaTold.{Added, ContentsAdded, FieldsAdded, ItemTold, KeywordTold, SchemaTold, ValuesAdded, counts, sort_of, unknown};
 ghost use Rattle.schema.specs.Told.{Itself, Told, Spelled, is_token};
@@ -307,8 +307,9 @@ fn resolve_in(types: &[TypeDef<'_>], fields: &mut Vec<Field<'_>>)
     }
 }
 
-// Each text comes to one document, or to one fault; and the document is what the grammar has.
+// Each text comes to one document, or to one fault; the document is what the grammar has, within the limits.
 pub fn one_schema()
     ensures once { OneSchema }
     ensures stands { SchemaStands }
+    ensures within { SchemaWithin }
 {}
