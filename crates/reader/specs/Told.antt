@@ -145,9 +145,13 @@ links_of n = vec_items n.names.links
 abbrev pub ValueTold : {W : Type 0} → Language → Reader W → (d i : ℕ) → Option Part → (before after : Nodes) → Result ℕ Fault → Type 0
 ValueTold language r d i name before after result = Told (manner_of language r) r.text.now d i name (table_of r.text.now before) (table_of r.text.now after) (links_of before) (links_of after) result
 
--- the same of a literal inside another text, at a depth: names may repeat, and it has no name itself
+-- the same of a literal inside another text, at a depth, which has no name itself
+abbrev pub LiteralIn : Bool → List ℕ → (depth i : ℕ) → (before after : Nodes) → Result ℕ Fault → Type 0
+LiteralIn distinct text depth i before after result = Told (record { language = Graphql; distinct = distinct }) text (33 - depth) i None (table_of text before) (table_of text after) (links_of before) (links_of after) result
+
+-- of one in which names may repeat
 abbrev pub LiteralTold : List ℕ → (depth i : ℕ) → (before after : Nodes) → Result ℕ Fault → Type 0
-LiteralTold text depth i before after result = Told (record { language = Graphql; distinct = false }) text (33 - depth) i None (table_of text before) (table_of text after) (links_of before) (links_of after) result
+LiteralTold = LiteralIn false
 
 -- a mark was seen from i on; it begins the value whose node is n
 pub record Opened (m : Manner) (text : List ℕ) (i at : ℕ) (mark : Lexical) (t : Raw) (T : Table) (name : Option Part) (n : Node) : Type 0 where

@@ -14,7 +14,7 @@ use text::graphql;
 use text::token::{Lexeme, Token};
 
 // The literal of a default or of an argument is at this depth, what is in it deeper.
-const LITERAL_DEPTH: usize = 1;
+pub const LITERAL_DEPTH: usize = 1;
 
 // A name, and its offset in the text.
 #[derive(Clone, Copy)]

@@ -12,3 +12,5 @@ pub mod Repeating
 pub mod Rows
 pub mod Twices
 pub mod Usages
+pub mod MembersTwice
+pub mod OperationFaults

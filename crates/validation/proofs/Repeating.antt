@@ -16,7 +16,7 @@ use Rattle.schema.specs.declared.definition.TypeKind.{TypeKind}
 use Rattle.schema.specs.declared.definition.TypeKind.TheVariants.{Scalar, Enum, Input, Output}
 use Rattle.schema.specs.Documents.{Label, Declared, Definition, a_scalar, an_enum, an_input, an_output, a_directive, Document}
 use Rattle.schema.specs.SchemaReading.{values_in, inputs_in, arguments_in}
-use Rattle.schema.specs.Rows.{span, argument_span, TypeRow, DirectiveRow, type_rows_from, directive_rows_from, type_rows, directive_rows, base_in}
+use Rattle.schema.specs.Rows.{span, TypeRow, DirectiveRow, type_rows_from, directive_rows_from, type_rows, directive_rows, base_in}
 use Rattle.schema.specs.Spans.{rows_in}
 use Rattle.schema.specs.Holds.{Each, Holds, FieldHeld, DirectiveHeld, type_row_of}
 use Rattle.validation.specs.Making.{FirstFault, Twice, labels_of, type_labels, directive_labels, inner_labels, built_in_names, NameTwiceAt, a_built_in, a_type_twice, a_directive_twice, inside_twice}
@@ -40,9 +40,6 @@ rows_between pre xs post n e =
     ∙ ap (λ k. take k (drop n all)) size
     ∙ ap (take (length xs)) cut
     ∙ take-append_seam xs post
-
-rows_empty : {A : Type 0} (xs : List A) → rows_in xs (span 0 0) ≡ []
-rows_empty xs = ap (λ b. cond b (take 0 (drop 0 xs)) []) (within_both 0 0 (length xs) (omega arith) (omega arith))
 
 map_cond : {A B : Type 0} (f : A → B) (b : Bool) (xs : List A) → map f (cond b xs []) ≡ cond b (map f xs) []
 map_cond f true xs = refl
@@ -202,11 +199,9 @@ module _ (A : List Label) where
   abbrev Argued : DirectiveRow → Definition → Type 0
   Argued r d = rows_in A r.arguments ≡ inner_labels d
 
-  spans : (pa : List Label) (fs : List Declared) (rest : List Label) (a : ℕ) → a ≡ length pa → A ≡ pa ++ (labels_of fs ++ rest) → rows_in A (argument_span a (length fs)) ≡ labels_of fs
-  spans pa [] rest a ea e = rows_empty A
-  spans pa (f ∷ fs) rest a ea e =
-      let gs = f ∷ fs in
-      ap (λ W. rows_in W (span a (length gs))) e ∙ ap (λ n. rows_in (pa ++ (labels_of gs ++ rest)) (span a n)) (sym (length_labels gs)) ∙ rows_between pa (labels_of gs) rest a ea
+  spans : (pa : List Label) (fs : List Declared) (rest : List Label) (a : ℕ) → a ≡ length pa → A ≡ pa ++ (labels_of fs ++ rest) → rows_in A (span a (length fs)) ≡ labels_of fs
+  spans pa fs rest a ea e =
+      ap (λ W. rows_in W (span a (length fs))) e ∙ ap (λ n. rows_in (pa ++ (labels_of fs ++ rest)) (span a n)) (sym (length_labels fs)) ∙ rows_between pa (labels_of fs) rest a ea
 
   each_directive : (D : Document) (pa : List Label) (a : ℕ) → a ≡ length pa → A ≡ pa ++ labels_of (arguments_in D) → Each Argued (directive_rows_from a D) (directive_defs D)
   each_directive [] pa a ea e = tt

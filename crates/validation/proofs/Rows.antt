@@ -1,5 +1,5 @@
 -- Rows that are found by their names.
-use Rattle.std.proofs.Common.{◌≡◌, ℕ, zero, suc, ◌+◌, ◌<◌, ◌≤◌, Bool, true, false, List, [], ◌∷◌, Some, None, Option, length, map, get_or, slice_get, IfSome, IsSome, refl, sym, ap, ◌∙◌, subst, ⊎_elim, arith}
+use Rattle.std.proofs.Common.{◌≡◌, ℕ, zero, suc, ◌<◌, true, List, [], ◌∷◌, Some, None, Option, length, map, get_or, IfSome, IsSome, refl, sym, ◌∙◌, subst, ⊎_elim, arith}
 use Rattle.std.specs.Borrow.{Bor}
 use Rattle.std.proofs.Math.Option.{none, some}
 use Rattle.std.proofs.lemmas.Bool.{cases_Bool, cond-true, cond-false}
@@ -7,7 +7,6 @@ use Rattle.model.specs.Values.{Name, Variable, same}
 use Rattle.model.specs.Calls.{variable_of}
 use Rattle.model.proofs.CoNames.{same_refl, same_true}
 use Rattle.source.specs.Table.{Table}
-use Rattle.lookup.specs.First.{First}
 use Rattle.schema.specs.declared.operation.Variable.{Variable as VariableRow}
 use Rattle.schema.specs.Holds.{Each}
 use Rattle.validation.specs.Literals.{VariableHeld, RowFound}

@@ -1,14 +1,12 @@
 -- What the rows of a schema and of an operation say to a check of literals.
-use Rattle.std.specs.Prelude.{◌≡◌, ℕ, List, map, Some, None, Option}
+use Rattle.std.specs.Prelude.{◌≡◌, List, map, Some, None, Option}
 use Rattle.std.proofs.Math.Option.{none, some}
 use Rattle.std.specs.Borrow.{Bor}
-use Rattle.model.specs.Values.{Name, Raw, Ty, Variable}
+use Rattle.model.specs.Values.{Name, Ty, Variable}
 use Rattle.source.specs.Table.{Table}
-use Rattle.schema.specs.declared.definition.Schema.{Schema}
 use Rattle.schema.specs.declared.operation.Variable.{Variable as VariableRow}
 use Rattle.schema.specs.declared.types.«Type».{«Type» as TypeIn}
-use Rattle.schema.specs.Documents.{Document}
-use Rattle.schema.specs.Holds.{Each, DefaultHeld, Holds, typed_of}
+use Rattle.schema.specs.Holds.{Each, DefaultHeld, typed_of}
 
 abbrev pub type_of : {B : Type 0} → TypeIn B → Ty
 type_of t = (typed_of t).ty

@@ -1,14 +1,19 @@
 -- The tests of a making: which faults lie where, and which of them is told.
-use Rattle.std.specs.Prelude.{◌≡◌, ℕ, ◌≤◌, ◌⊎◌, true, List, [], ◌∷◌, ◌++◌, Some, None, Option, codes}
+use Rattle.std.specs.Prelude.{◌≡◌, ℕ, ◌≤◌, ◌⊎◌, true, List, [], ◌∷◌, ◌++◌, length, Some, None, Option, codes}
 use Rattle.std.proofs.Math.Option.{some}
-use Rattle.model.specs.Values.{Name, Raw, has, output_d, TypeDef, find}
+use Rattle.model.specs.Values.{Name, Raw, Argument, place_of, has, output_d, TypeDef, find}
 use Rattle.model.specs.Limits.{RawLimits}
 use Rattle.model.specs.Back.{Distinct, Proper}
 use Rattle.model.specs.Checking.{inner}
 use Rattle.model.specs.Cycles.{Among, OnCycle}
 use Rattle.model.specs.CycleLaws.{type_names}
-use Rattle.schema.specs.Documents.{Label, Declared, Definition, a_scalar, an_enum, an_input, an_output, a_directive, Document, field_of, types_in, schema_of}
+use Rattle.schema.specs.Documents.{Label, Declared, Definition, a_scalar, an_enum, an_input, an_output, a_directive, Document, VariableDefinition, OperationDocument, field_of, types_in, schema_of}
+use Rattle.schema.specs.HoldsOperation.{arguments_in as uses_arguments}
 use Rattle.schema.specs.SchemaReading.{inputs_in, arguments_in}
+use Rattle.text.specs.declared.fault.Fault.TheVariants.{RepeatedName}
+use Rattle.text.specs.declared.language.Language.TheVariants.{Graphql}
+use Rattle.reader.specs.Tokens.{Sights}
+use Rattle.reader.specs.Reading.{fails, Reads}
 
 -- the least place where a fault lies, or none where none lies
 abbrev pub FirstFault : (ℕ → Type 0) → Option ℕ → Type 0
@@ -87,6 +92,37 @@ pub data NameTwiceAt (D : Document) : ℕ → Type 0 where
   a_type_twice : {p : ℕ} → Twice (type_labels D) p → NameTwiceAt D p
   a_directive_twice : {p : ℕ} → Twice (directive_labels D) p → NameTwiceAt D p
   inside_twice : {d : Definition} {p : ℕ} → Among d D → Twice (inner_labels d) p → NameTwiceAt D p
+
+-- MEMBERS
+
+-- at p stands a name that an earlier member of an object in the literal at `at` has: so that literal is refused where names are distinct
+abbrev pub MemberTwice : List ℕ → ℕ → ℕ → Type 0
+MemberTwice text at p = (at ≤ length text) × Reads (Sights Graphql text) Graphql true 32 at (fails (RepeatedName p))
+
+-- at p a name is declared again, or a member in a default has again the name of another (section 2.9.8)
+pub data RepeatedNameAt (text : List ℕ) (D : Document) (p : ℕ) : Type 0 where
+  declared_again : NameTwiceAt D p → RepeatedNameAt text D p
+  member_again : {d : Declared} {x : Raw} → Input D d → d.dflt ≡ some x → MemberTwice text (place_of x) p → RepeatedNameAt text D p
+
+-- OPERATIONS (sections 2.10 and 2.12)
+
+abbrev pub variable_labels : List VariableDefinition → List Label
+variable_labels [] = []
+variable_labels (v ∷ vs) = v.declared.label ∷ variable_labels vs
+
+-- at p a variable is defined again (section 5.8.1), or a member in a default or in an argument of a use has again the name of another (section 5.6.3)
+pub data RepeatedInOperationAt (text : List ℕ) (D : OperationDocument) (p : ℕ) : Type 0 where
+  variable_again : Twice (variable_labels D.variables) p → RepeatedInOperationAt text D p
+  default_again : {v : VariableDefinition} {x : Raw} → Among v D.variables → v.declared.dflt ≡ some x → MemberTwice text (place_of x) p → RepeatedInOperationAt text D p
+  value_again : {a : Argument} → Among a (uses_arguments D.uses) → MemberTwice text (place_of a.value) p → RepeatedInOperationAt text D p
+
+-- at p a variable's type has a name that the schema neither declares nor has built in
+pub data UnknownVariableAt (S : Document) (D : OperationDocument) (p : ℕ) : Type 0 where
+  unknown_variable_at : {v : VariableDefinition} → Among v D.variables → (Known S (inner v.declared.typed.ty) → ⊥) → v.declared.typed.place ≡ p → UnknownVariableAt S D p
+
+-- at p a variable's type has a name that the schema declares, as no input type (section 5.8.2)
+pub data NotInputVariableAt (S : Document) (D : OperationDocument) (p : ℕ) : Type 0 where
+  not_input_variable_at : {v : VariableDefinition} → Among v D.variables → Known S (inner v.declared.typed.ty) → find (schema_of S) (inner v.declared.typed.ty) ≡ output_d → v.declared.typed.place ≡ p → NotInputVariableAt S D p
 
 -- DEFAULT CYCLES (section 3.10)
 

@@ -5,6 +5,7 @@ use Rattle.model.specs.Cycles.{Among}
 use Rattle.schema.specs.Documents.{Label}
 use Rattle.schema.specs.declared.definition.Field.{Field}
 use Rattle.schema.specs.declared.types.Base.{Base}
+use Rattle.schema.specs.declared.types.«Type».{«Type»}
 
 -- the lesser of two places that may be none
 abbrev pub lesser_of : Option ℕ → Option ℕ → Option ℕ
@@ -19,3 +20,7 @@ pub data StandsFor (base : Base) (fields : List Field) (p : ℕ) : Type 0 where
 -- a name at a place
 abbrev pub labelled : Name → ℕ → Label
 labelled n p = record { name = n; place = p }
+
+-- the type's name stands for this, and is written at p
+abbrev pub BasedAt : Base → «Type» Base → ℕ → Type 0
+BasedAt base t p = (t.shape.base ≡ base) × (t.place ≡ p)

@@ -1,5 +1,5 @@
 -- Names that the tables of a schema hold twice.
-use Rattle.std.specs.Prelude.{◌≡◌, ℕ, true, List, [], map}
+use Rattle.std.specs.Prelude.{◌≡◌, ℕ, true, List, [], Some, None, Option, map}
 use Rattle.std.proofs.Common.{vec_items}
 use Rattle.model.specs.Values.{has}
 use Rattle.model.specs.Cycles.{Among}
@@ -13,7 +13,9 @@ use Rattle.schema.specs.declared.tokens.Name.{Name}
 use Rattle.schema.specs.Documents.{Label}
 use Rattle.schema.specs.Spans.{rows_in}
 use Rattle.validation.specs.Places.{labelled}
-use Rattle.validation.specs.Making.{Twice, built_in_names}
+use Rattle.source.specs.Nodes.{node_at}
+use Rattle.source.specs.Table.{Table}
+use Rattle.validation.specs.Making.{Twice, MemberTwice, built_in_names}
 
 abbrev pub type_name : TypeDef → Label
 type_name t = labelled t.name.now t.place
@@ -49,3 +51,8 @@ TwiceInside s t = Twice (names_inside s t t.kind)
 -- a name is twice among the arguments of the directive
 abbrev pub TwiceArgued : Schema → Directive → ℕ → Type 0
 TwiceArgued s d = Twice (map field_name (rows_in (vec_items s.arguments) d.arguments))
+
+-- a member in the default has again the name of another
+abbrev pub DefaultTwice : Table → Option ℕ → ℕ → Type 0
+DefaultTwice T None p = ⊥
+DefaultTwice T (Some c) p = MemberTwice T.text (node_at T.nodes c).place p

@@ -11,6 +11,8 @@ pub mod fault;
 pub mod literal;
 #[cfg(test)]
 mod literal_tests;
+pub mod members;
+pub mod operations;
 mod place;
 pub mod repeats;
 #[cfg(test)]

@@ -2,12 +2,12 @@
 ghost use Rattle.std.specs.Prelude.{◌≡◌, ◌↔◌, ◌⊎◌, IsTrue};
 ghost use Rattle.schema.specs.Documents.{Document};
 ghost use Rattle.schema.specs.Holds.{Holds};
-ghost use Rattle.validation.specs.Places.{StandsFor};
+ghost use Rattle.validation.specs.Places.{StandsFor, BasedAt};
 ghost use Rattle.validation.specs.Making.{FirstFault, UnknownAt, NotInputAt};
 
 use crate::place;
 use schema::definition::{Field, Schema};
-use schema::types::Base;
+use schema::types::{Base, Type};
 
 // The first type whose name stands for nothing.
 pub fn unknown_type(schema: &Schema<'_>) -> Option<usize>
@@ -44,6 +44,16 @@ fn first_among(fields: &[Field<'_>], base: Base) -> Option<usize>
         }
     }
     first
+}
+
+// Where the type's name is written, if it stands for this.
+pub(crate) fn based(ty: Type<'_>, base: Base) -> Option<usize>
+    ensures { FirstFault (BasedAt base ty.entry) result }
+{
+    if stands_for(ty.shape.base, base) {
+        return Some(ty.place);
+    }
+    None
 }
 
 fn stands_for(one: Base, other: Base) -> bool

@@ -1,5 +1,3 @@
-use Rattle.std.proofs.Common.{◌≡◌, ◌<◌, length, subst}
-use Rattle.validation.specs.Literals.{RowFound}
 use Rattle.validation.proofs.Rows.{none_declared, row_declared}
 use Rattle.validation.proofs.variables.Variables.find.Goals as goal
 
