@@ -24,7 +24,6 @@ pub mod variables;
 use fault::MakeFault;
 use schema::definition::Schema;
 use schema::operation::Operation;
-use schema::types::Base;
 use schema::{document, operation};
 use std::alloc::Global;
 use text::fault::Fault;
@@ -34,7 +33,7 @@ pub fn make_schema(heap: Global, text: &[u8]) -> Result<Schema<'_>, MakeFault>
     ensures { IfOk result (λ s. vec_len s.types ≤ 256) }
 {
     let schema = document::read_schema(heap, text)?;
-    no_repeated(place::lesser(repeats::name_twice(&schema), schema.tree.repeated_member()))?;
+    no_repeated(members::repeated_name(heap, &schema)?)?;
     if let Some(at) = types::unknown_type(&schema) {
         return Err(MakeFault::UnknownType(at));
     }
@@ -59,14 +58,11 @@ pub fn make_operation<'a>(
     ensures { IfOk result (λ o. vec_len o.variables ≤ 64) }
 {
     let operation = operation::read_operation(heap, schema, text)?;
-    no_repeated(place::lesser(
-        twice::twice(&operation.variables),
-        operation.tree.repeated_member(),
-    ))?;
-    if let Some(at) = type_with(&operation, Base::Unknown) {
+    no_repeated(operations::repeated_name(heap, &operation)?)?;
+    if let Some(at) = operations::unknown_type(&operation) {
         return Err(MakeFault::UnknownType(at));
     }
-    if let Some(at) = type_with(&operation, Base::Output) {
+    if let Some(at) = operations::not_input(&operation) {
         return Err(MakeFault::NotInput(at));
     }
     if let Some(at) = defaults::bad_variable_default(schema, &operation) {
@@ -78,15 +74,4 @@ pub fn make_operation<'a>(
 // Refuses the name at the place, if there is one.
 fn no_repeated(place: Option<usize>) -> Result<(), Fault> {
     place.map_or(Ok(()), |place| Err(Fault::RepeatedName(place)))
-}
-
-// The first type of a variable whose name stands for this.
-fn type_with(operation: &Operation<'_>, base: Base) -> Option<usize> {
-    for variable in operation.variables.iter() {
-        let ty = variable.ty;
-        if ty.shape.base == base {
-            return Some(ty.place);
-        }
-    }
-    None
 }
