@@ -39,6 +39,7 @@ enum Keyword {
 pub fn read_schema(heap: Global, text: &[u8]) -> Result<Schema<'_>, Fault>
     ensures told { SchemaTold text.now result }
     ensures few { IfOk result Few }
+    ensures text { IfOk result (λ s. s.tree.text.now ≡ text.now) }
 {
     let mut tokens = Tokens::new(text)?;
     let mut schema = Schema {
@@ -291,6 +292,7 @@ fn locations(tokens: &mut Tokens<'_>) -> Result<Locations, Fault>
 // Finds what the types of all fields and arguments stand for, once all types are declared.
 fn resolve(schema: &mut Schema<'_>)
     ensures few { Few schema.old → Few schema.new }
+    ensures text { schema.new.tree.text.now ≡ schema.old.tree.text.now }
     ensures holds { (D : Document) → HeldBy unknown schema.old D → Holds schema.new D }
 {
     resolve_in(schema.types.as_slice(), &mut schema.fields);

@@ -169,3 +169,6 @@ returns-clause-told c =
 
 pub returns-clause-few : goal.returns-clause-few
 returns-clause-few c = c.resolve.ensures.few c.loop-schema.invariant.6
+
+pub returns-clause-text : goal.returns-clause-text
+returns-clause-text c = c.resolve.ensures.text ∙ c.loop-schema.invariant.4
