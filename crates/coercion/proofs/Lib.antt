@@ -1,0 +1,3 @@
+pub mod Opened
+pub mod Followed
+pub mod Steps

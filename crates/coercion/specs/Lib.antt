@@ -1,2 +1,4 @@
 pub mod Faults
 pub mod Frames
+pub mod Levels
+pub mod States
