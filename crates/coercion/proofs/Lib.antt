@@ -1,3 +1,5 @@
 pub mod Opened
 pub mod Followed
 pub mod Steps
+pub mod Writing
+pub mod Contents

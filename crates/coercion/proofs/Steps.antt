@@ -11,7 +11,7 @@ use Rattle.model.specs.Walk.{opening}
 use Rattle.model.proofs.ByteLaws.{size-is_length}
 use Rattle.record.specs.Records.{patched}
 use Rattle.coercion.specs.Levels.{Setting, Rest, items, kept, members, fields, Level, Coming, join, join_mems, lead_of, lead_bytes, called, ask, rest_at, record_at, with_one, after, resume, coming_at, Opens, whole, holds, fails, opens_kept, opens_plain, opens_declared, opens_scalar, opens_list, opens_object, opens_null, opens, opened_at, Follows, nothing, next, missing, too_far, follows_default, follows_field, follows_fields, follows, taken_in, followed_at, begun, written_at, Starts}
-use Rattle.coercion.specs.States.{Takes, Chained, Going, Turned, Pending, delivered, Passed, level_of, going_on}
+use Rattle.coercion.specs.States.{Opened, opened_size, Takes, Chained, Going, Turned, Pending, delivered, Passed, level_of, going_on}
 use Rattle.coercion.proofs.Opened.{then_ok, then_same, value_opened}
 use Rattle.coercion.proofs.Followed.{rest_follows}
 
@@ -134,17 +134,6 @@ fresh S p (list at xs) (some (named b n)) = fresh_list at xs n (find S n)
 fresh S p (list at xs) (some (list_of b t)) = refl
 fresh S p (object at ms) (some (named b n)) = fresh_object at ms n (find S n)
 fresh S p (object at ms) (some (list_of b t)) = refl
-
-abbrev pub Opened : Opens → Type 0
-Opened (whole r a) = Unit {0}
-Opened (holds x a) = Unit {0}
-Opened (fails u at) = ⊥
-
--- how many bytes are opened, without the name
-abbrev pub opened_size : Opens → ℕ
-opened_size (whole r a) = size r
-opened_size (holds x a) = 6
-opened_size (fails u at) = 0
 
 plus_plus : (a b c : ℕ) → a + b + c ≡ a + (b + c)
 plus_plus a b c = omega arith

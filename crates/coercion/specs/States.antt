@@ -5,7 +5,7 @@ use Rattle.model.specs.Values.{Name, place_of, Rec}
 use Rattle.model.specs.Records.{encode, size}
 use Rattle.model.specs.Refusals.{Out, ok, and_then}
 use Rattle.model.specs.Coercion.{Rule}
-use Rattle.coercion.specs.Levels.{Setting, Rest, items, kept, members, fields, Level, Coming, lead_of, lead_bytes, taking, after, resume, coming_at, written_at, Starts}
+use Rattle.coercion.specs.Levels.{Setting, Opens, whole, holds, fails, Rest, items, kept, members, fields, Level, Coming, lead_of, lead_bytes, taking, after, resume, coming_at, written_at, Starts}
 
 -- a member has a name, an item has none
 abbrev pub Takes : Option Name → Rest → Type 0
@@ -24,26 +24,26 @@ Chained name n [] = n ≡ name
 Chained name n (m ∷ ms) = Takes n m.rest × Chained name m.name ms
 
 -- the innermost record may go on
-pub record Going (W : Setting) (base : List ℕ) (name : Option Name) (whole : Out Rec) (m : Level) (ms : List Level) (out : List ℕ) : Type 0 where
-  pub result : resume W m ms (length out) ≡ whole
+pub record Going (W : Setting) (base : List ℕ) (name : Option Name) (outcome : Out Rec) (m : Level) (ms : List Level) (out : List ℕ) : Type 0 where
+  pub result : resume W m ms (length out) ≡ outcome
   pub bytes : out ≡ written_at base (m ∷ ms)
   pub starts : Starts base (m ∷ ms)
   pub chained : Chained name m.name ms
 
 -- the outermost record is whole
-pub record Ended (base : List ℕ) (name : Option Name) (whole : Out Rec) (out : List ℕ) : Type 0 where
+pub record Ended (base : List ℕ) (name : Option Name) (outcome : Out Rec) (out : List ℕ) : Type 0 where
   pub answer : Rec
-  pub result : whole ≡ ok answer
+  pub result : outcome ≡ ok answer
   pub bytes : out ≡ base ++ (lead_bytes name ++ encode answer)
 
 -- between two turns
 abbrev pub Turned : Setting → List ℕ → Option Name → Out Rec → List Level → List ℕ → Type 0
-Turned W base name whole [] out = Ended base name whole out
-Turned W base name whole (m ∷ ms) out = Going W base name whole m ms out
+Turned W base name outcome [] out = Ended base name outcome out
+Turned W base name outcome (m ∷ ms) out = Going W base name outcome m ms out
 
 -- a value is to be opened in the innermost record
-pub record Pending (W : Setting) (base : List ℕ) (name : Option Name) (whole : Out Rec) (c : Coming) (ms : List Level) (out : List ℕ) : Type 0 where
-  pub result : and_then (coming_at W c (suc (length ms)) (length out)) (λ r. after W c.name ms r (length out + (lead_of c.name + size r))) ≡ whole
+pub record Pending (W : Setting) (base : List ℕ) (name : Option Name) (outcome : Out Rec) (c : Coming) (ms : List Level) (out : List ℕ) : Type 0 where
+  pub result : and_then (coming_at W c (suc (length ms)) (length out)) (λ r. after W c.name ms r (length out + (lead_of c.name + size r))) ≡ outcome
   pub bytes : out ≡ written_at base ms
   pub starts : Starts base ms
   pub chained : Chained name c.name ms
@@ -65,3 +65,15 @@ level_of c used a x = record { bound = c.bound; form = c.form; here = c.here; na
 -- the record that goes on with that
 abbrev pub going_on : Level → Rest → Level
 going_on m x = record { bound = m.bound; form = m.form; here = m.here; name = m.name; start = m.start; at = m.at; asks = m.asks; rest = x }
+
+-- the tests of a value let it be opened
+abbrev pub Opened : Opens → Type 0
+Opened (whole r a) = Unit {0}
+Opened (holds x a) = Unit {0}
+Opened (fails u at) = ⊥
+
+-- how many bytes are opened, without the name
+abbrev pub opened_size : Opens → ℕ
+opened_size (whole r a) = size r
+opened_size (holds x a) = 6
+opened_size (fails u at) = 0

@@ -1,7 +1,14 @@
 // The walk of a raw value at its type.
 ghost use Rattle.std.specs.Prelude.{◌≡◌, ◌+◌, ◌^◌, ◌<◌, ◌≤◌, length, IfOk, IfSome, OnOk};
 ghost use Rattle.record.specs.Held.{size, Kept};
+ghost use mathlib.Core.Option.{Option as Perhaps};
+ghost use Rattle.model.specs.Values.{Name, Raw};
+ghost use Rattle.source.specs.Heads.{kind_of};
+ghost use Rattle.schema.specs.Documents.{Document};
 ghost use Rattle.coercion.specs.Frames.{Rooted, Stacked, left};
+ghost use Rattle.coercion.specs.Levels.{opens_kept};
+ghost use Rattle.coercion.specs.States.{Opened};
+ghost use Rattle.coercion.specs.Openings.{AsksIs, OpensAs};
 
 use crate::fault::{Spot, ValueFault};
 use crate::frames::{Frame, Frames, Inside, Rest};
@@ -172,7 +179,9 @@ impl<'w, 's, S: Source, R: ScalarRule> Walk<'w, 's, S, R> {
     }
 
     // The record of a value that is kept as it is.
-    fn contents(&self, at: usize, kind: Kind, scalar: Option<usize>) -> Opening<'w> {
+    fn contents(&self, at: usize, kind: Kind, scalar: Option<usize>) -> Opening<'w>
+        ensures { (D : Document) (a : Perhaps Name) (t : Raw) → S.stands self.now.source.now at t → kind ≡ kind_of t → AsksIs D scalar a → Opened (opens_kept a t) → OpensAs (S.stands self.now.source.now) (S.items self.now.source.now) (S.members self.now.source.now) D result.body result.inside (opens_kept a t) }
+    {
         let source = self.source;
         let text = source.text(at);
         let (body, rest) = match kind {
