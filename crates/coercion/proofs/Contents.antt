@@ -1,8 +1,8 @@
 -- What the kind of a value says of it, and how contents are opened by it.
-use Rattle.std.proofs.Common.{◌≡◌, ℕ, Bool, List, None, Some, Option, refl, sym, ap, ◌∙◌, subst}
+use Rattle.std.proofs.Common.{◌≡◌, ℕ, Bool, List, None, Some, Option, refl, sym, subst}
 use Rattle.std.specs.Borrow.{Bor}
 use Rattle.text.specs.declared.decimal.Scale.{Scale}
-use Rattle.model.specs.Values.{Name, Dec, Scalar, boolean, whole, decimal, string, symbol, Raw, Raws, Mems, null, scalar, variable, list, object}
+use Rattle.model.specs.Values.{Name, Dec, boolean, whole, decimal, string, symbol, Raw, Raws, Mems, null, scalar, variable, list, object}
 use Rattle.model.specs.Limits.{RawLimits}
 use Rattle.source.specs.declared.raw.Kind.{Kind}
 use Rattle.source.specs.declared.raw.Kind.TheVariants.{Null, Boolean, Whole, Decimal, String, Enum, Variable, List as ListKind, Object}
@@ -14,7 +14,7 @@ use Rattle.record.specs.declared.body.Body.TheVariants.{Null as NullBody, Boolea
 use Rattle.coercion.specs.declared.frames.Rest.TheVariants.{Items, Members}
 use Rattle.coercion.specs.Levels.{opens_kept}
 use Rattle.coercion.specs.States.{Opened}
-use Rattle.coercion.specs.Openings.{AsksIs, items_are, contents_are, members_are, OpensAs}
+use Rattle.coercion.specs.Openings.{AsksIs, contents_are, members_are, OpensAs}
 use Rattle.coercion.proofs.Writing.{writes_null, writes_boolean, writes_whole, writes_decimal, writes_string, writes_list, writes_object}
 
 pub data Seen : Kind → Raw → Type 0 where

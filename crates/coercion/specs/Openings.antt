@@ -1,7 +1,7 @@
 -- What the parts of a walk stand for: its types, what is to come in a record, and how a record is opened.
-use Rattle.std.specs.Prelude.{◌≡◌, ℕ, ◌≤◌, ◌++◌, List, map, None, Some, Option}
+use Rattle.std.specs.Prelude.{◌≡◌, ℕ, ◌≤◌, None, Some, Option}
 use mathlib.Core.Option.{none, some}
-use Rattle.model.specs.Values.{Name, Raw, Raws, Mems, object, nil, cons, end, mem, Ty, Rec, Recs, Rmems}
+use Rattle.model.specs.Values.{Name, Raw, Raws, Mems, nil, cons, Ty, Rec, Recs, Rmems}
 use Rattle.source.specs.declared.raw.Span.{Span}
 use Rattle.schema.specs.declared.types.Base.{Base}
 use Rattle.schema.specs.declared.types.Base.TheVariants.{Custom}

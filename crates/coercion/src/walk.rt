@@ -1,8 +1,9 @@
 // The walk of a raw value at its type.
-ghost use Rattle.std.specs.Prelude.{◌≡◌, ◌+◌, ◌^◌, ◌<◌, ◌≤◌, length, IfOk, IfSome, OnOk};
+ghost use Rattle.std.specs.Prelude.{◌≡◌, ◌+◌, ◌^◌, ◌<◌, ◌≤◌, false, cond, length, IfOk, IfSome, OnOk};
 ghost use Rattle.record.specs.Held.{size, Kept};
 ghost use mathlib.Core.Option.{Option as Perhaps};
-ghost use Rattle.model.specs.Values.{Name, Raw};
+ghost use Rattle.model.specs.Values.{Name, Raw, place_of};
+ghost use Rattle.record.specs.declared.body.Body.TheVariants.{List as ListBody};
 ghost use Rattle.source.specs.Heads.{kind_of};
 ghost use Rattle.schema.specs.Documents.{Document};
 ghost use Rattle.coercion.specs.Frames.{Rooted, Stacked, left};
@@ -47,7 +48,10 @@ struct Opening<'s> {
 
 impl<'s> Opening<'s> {
     // A record that holds nothing but its body.
-    fn leaf(body: Body<'s>) -> Opening<'s> {
+    fn leaf(body: Body<'s>) -> Opening<'s>
+        ensures body { result.body ≡ body.entry }
+        ensures inside { result.inside ≡ record { rest = None; shape = None; scalar = None } }
+    {
         Opening {
             body,
             inside: Inside::default(),
@@ -55,7 +59,10 @@ impl<'s> Opening<'s> {
     }
 
     // A list of items of a type.
-    fn list(rest: Rest, item: Shape) -> Opening<'s> {
+    fn list(rest: Rest, item: Shape) -> Opening<'s>
+        ensures body { result.body ≡ ListBody }
+        ensures inside { result.inside ≡ record { rest = Some rest; shape = Some item; scalar = None } }
+    {
         Opening {
             body: Body::List,
             inside: Inside {
@@ -85,7 +92,7 @@ struct Step<'s> {
 impl Frame {
     // The record where that is still to come.
     fn with(self, rest: Option<Rest>) -> Frame
-        ensures { result.start ≡ self.start }
+        ensures { result ≡ record self { inside = record self.inside { rest = rest } } }
     {
         let inside = Inside {
             rest,
@@ -96,7 +103,8 @@ impl Frame {
 
     // The value at the cursor in the record, and the record where that is still to come.
     fn value<'n>(self, name: Option<&'n [u8]>, at: usize, rest: Option<Rest>) -> (Step<'n>, Frame)
-        ensures { result.1.start ≡ self.start }
+        ensures step { result.0 ≡ record { name = name.entry; at = at; shape = self.inside.shape; field = self.field; in_default = self.in_default } }
+        ensures frame { result.1 ≡ record self { inside = record self.inside { rest = rest } } }
     {
         let step = Step {
             name,
@@ -111,7 +119,14 @@ impl Frame {
 
 impl<'w, 's, S: Source, R: ScalarRule> Walk<'w, 's, S, R> {
     // The walk of the defaults that the walk comes to.
-    fn of_defaults(&self) -> Walk<'w, 's, Literal<'w, 's>, R> {
+    fn of_defaults(&self) -> Walk<'w, 's, Literal<'w, 's>, R>
+        ensures source { result.source ≡ self.now.defaults }
+        ensures schema { result.schema ≡ self.now.schema }
+        ensures defaults { result.defaults ≡ self.now.defaults }
+        ensures rule { result.rule ≡ self.now.rule }
+        ensures variable { result.variable ≡ self.now.variable }
+        ensures placed { result.placed ≡ false }
+    {
         Walk {
             source: self.defaults,
             schema: self.schema,
@@ -122,7 +137,11 @@ impl<'w, 's, S: Source, R: ScalarRule> Walk<'w, 's, S, R> {
         }
     }
 
-    fn spot(&self, at: usize, field: Option<usize>) -> Spot {
+    fn spot(&self, at: usize, field: Option<usize>) -> Spot
+        ensures place { (t : Raw) → S.stands self.now.source.now at t → result.place ≡ cond self.now.placed (place_of t) 0 }
+        ensures variable { result.variable ≡ Some self.now.variable }
+        ensures field { result.field ≡ field }
+    {
         let place = if self.placed {
             self.source.place(at)
         } else {
@@ -285,9 +304,9 @@ impl<'w, 's, S: Source, R: ScalarRule> Walk<'w, 's, S, R> {
     }
 
     // Asks the rule about a record that is written, if it is the value of a custom scalar.
-    fn settle(&self, scalar: Option<usize>, record: &[u8], spot: Spot) -> Result<(), ValueFault> {
+    fn settle(&self, scalar: Option<usize>, bytes: &[u8], spot: Spot) -> Result<(), ValueFault> {
         match scalar {
-            Some(index) if !self.rule.accepts(self.schema.type_name(index), record) => {
+            Some(index) if !self.rule.accepts(self.schema.type_name(index), bytes) => {
                 Err(ValueFault::ScalarRefused(spot))
             }
             _ => Ok(()),
