@@ -59,14 +59,14 @@ record Unnamed (T : ℕ → ℕ → ℕ → Lexical → Type 0) (j : ℕ) : Type
 module _ (N : ℕ → Sight → Type 0) (T : ℕ → ℕ → ℕ → Lexical → Type 0) (one : (i : ℕ) (v w : Sight) → N i v → N i w → v ≡ w)
     (sure : (i s e : ℕ) (x : Lexical) (v : Sight) → N i v → T i s e x → v ≡ sees s e x)
     (num : (i s e : ℕ) (k : NumberKind) (ds : List ℕ) → N i (sees s e (a_number k ds)) → Number ds k) where
-  takes_name : (i s e : ℕ) (w : Name) (q : Out Label) → T i s e (a_name w) → Takes N any_name i q → q ≡ got e (record { name = w; place = s })
+  pub takes_name : (i s e : ℕ) (w : Name) (q : Out Label) → T i s e (a_name w) → Takes N any_name i q → q ≡ got e (record { name = w; place = s })
   takes_name i s e w q t (v, n, h) = sym h ∙ ap (taken any_name) (sure i s e (a_name w) v n t)
 
-  if_yes : {X : Type 0} (m : Mark) (B : ℕ → ℕ → Out X → Type 0) (C : ℕ → Out X → Type 0) (i s e : ℕ) (o : Out X) → T i s e (a_mark m) → IfMark N m B C i o → B s e o
+  pub if_yes : {X : Type 0} (m : Mark) (B : ℕ → ℕ → Out X → Type 0) (C : ℕ → Out X → Type 0) (i s e : ℕ) (o : Out X) → T i s e (a_mark m) → IfMark N m B C i o → B s e o
   if_yes m B C i s e o t (v, n, h) =
       subst (λ c. Chosen c (B s e o) (C i o)) (is_mark_lem m) (subst (λ v. Chooses (is_mark m) B C v i o) (sure i s e (a_mark m) v n t) h)
 
-  if_no : {X : Type 0} (m : Mark) (B : ℕ → ℕ → Out X → Type 0) (C : ℕ → Out X → Type 0) (i : ℕ) (o : Out X) → Unlike T m i → IfMark N m B C i o → C i o
+  pub if_no : {X : Type 0} (m : Mark) (B : ℕ → ℕ → Out X → Type 0) (C : ℕ → Out X → Type 0) (i : ℕ) (o : Out X) → Unlike T m i → IfMark N m B C i o → C i o
   if_no m B C i o u (v, n, h) =
       subst (λ c. Chosen c (B u.start u.end o) (C i o)) u.other (subst (λ v. Chooses (is_mark m) B C v i o) (sure i u.start u.end u.token v n u.stands) h)
 
@@ -80,7 +80,7 @@ module _ (N : ℕ → Sight → Type 0) (T : ℕ → ℕ → ℕ → Lexical →
   bang_after j k v no_default u = u
   bang_after j k v (a_default {s = s} {e = e} a x) u = record { start = s; end = e; token = a_mark equals; stands = a; other = refl }
 
-  agree_declared : (i k : ℕ) (d : Declared) → DeclaredAt T i k d → DeclaredWithin d → Unlike T bang k → Unlike T equals k → (e : ℕ) × T i d.label.place e (a_name d.label.name) × ((q : Out Declared) → ReadsDeclared N d.label e q → q ≡ got k d)
+  pub agree_declared : (i k : ℕ) (d : Declared) → DeclaredAt T i k d → DeclaredWithin d → Unlike T bang k → Unlike T equals k → (e : ℕ) × T i d.label.place e (a_name d.label.name) × ((q : Out Declared) → ReadsDeclared N d.label e q → q ≡ got k d)
   agree_declared i k d (input_value {s = s} {e = e} {b = b} {c = c} {j = j} {w = w} {t = t} {v = v} a x y z) h u p = (
     e,
     a,
@@ -97,11 +97,11 @@ module _ (N : ℕ → Sight → Type 0) (T : ℕ → ℕ → ℕ → Lexical →
       (opens : (i j : ℕ) (x : X) → P i j x → (b : ℕ) × (e : ℕ) × (y : Lexical) × T i b e y × (closes y ≡ false))
       (starts : (i j : ℕ) (x : X) → P i j x → F i)
       (agrees : (s : S) (i j : ℕ) (x : X) (q : Out X) → P i j x → F j → W s x → A s i q → q ≡ got j x) where
-    abbrev WithinFrom : S → List X → Type 0
+    abbrev pub WithinFrom : S → List X → Type 0
     WithinFrom s [] = Unit {0}
     WithinFrom s (x ∷ xs) = W s x × WithinFrom (step s x) xs
 
-    follows : {j k : ℕ} {xs : List X} {may : Bool} → ItemsAt T closes P may j k xs → F j
+    pub follows : {j k : ℕ} {xs : List X} {may : Bool} → ItemsAt T closes P may j k xs → F j
     follows {j} (at_shut {b = b} {e = e} {x = x} t c) = closed j b e x t c
     follows {j} (at_more {j = k} {x = x} p r) = starts j k x p
 
