@@ -21,5 +21,6 @@ pub mod Spanning
 pub mod Taking
 pub mod TypeLaws
 pub mod TypeSteps
+pub mod UseRows
 pub mod Whole
 pub mod WrittenLaws

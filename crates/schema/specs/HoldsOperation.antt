@@ -13,6 +13,7 @@ use Rattle.schema.specs.declared.types.Base.{Base}
 use Rattle.schema.specs.Documents.{Label, Kind, a_query, a_mutation, a_subscription, VariableDefinition, OperationDocument}
 use Rattle.schema.specs.Holds.{Each, DefaultHeld, typed_of}
 use Rattle.schema.specs.Rows.{argument_span}
+use Rattle.schema.specs.Spans.{rows_in}
 
 abbrev pub kind_of : OperationKind → Kind
 kind_of Query = a_query
@@ -54,6 +55,12 @@ pub record ArgumentHeld (T : Table) (a : ArgumentIn) (x : Argument) : Type 0 whe
   pub name : a.name.now ≡ x.name
   pub place : a.place ≡ x.place
   pub value : Stands T a.value x.value
+
+-- a use, among all arguments: its own stand in its span
+pub record UseHeld (T : Table) (all : List ArgumentIn) (u : UseIn) (x : Use) : Type 0 where
+  pub name : u.name.now ≡ x.name
+  pub place : u.place ≡ x.place
+  pub arguments : Each (ArgumentHeld T) (rows_in all u.arguments) x.arguments
 
 -- the whole, with what names of types stand for by B
 pub record HoldsOperation (B : Name → Base) (o : OperationIn) (D : OperationDocument) : Type 0 where

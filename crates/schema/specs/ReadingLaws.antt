@@ -1,5 +1,5 @@
 -- The laws of the readings of types, declarations and operations.
-use Rattle.std.specs.Prelude.{◌≡◌, ℕ, ◌-◌, ◌≤◌, Bool, false, not, List, [], ◌∷◌, length, get_or, nat_lt}
+use Rattle.std.specs.Prelude.{◌≡◌, ℕ, ◌-◌, ◌≤◌, Bool, false, not, List, [], ◌∷◌, length, get_or, nat_lt, vec_items}
 use Rattle.std.proofs.Math.Option.{Option, none, some}
 use Rattle.model.specs.Values.{Name, Raw, Argument, Use, nullable}
 use Rattle.text.specs.declared.language.Language.TheVariants.{Graphql}
@@ -8,6 +8,11 @@ use Rattle.reader.specs.Tokens.{Sights, TokenIs}
 use Rattle.reader.specs.Reading.{Out, got, is_mark, Bounded}
 use Rattle.schema.specs.Declarations.{DeclaredAt, ReadsDeclared}
 use Rattle.schema.specs.Documents.{Label, Typed, Declared, VariableDefinition, OperationDocument}
+use Rattle.schema.specs.Holds.{Each}
+use Rattle.schema.specs.HoldsOperation.{UseHeld, HoldsOperation}
+use Rattle.schema.specs.declared.operation.Operation.{Operation as OperationIn}
+use Rattle.schema.specs.declared.types.Base.{Base}
+use Rattle.source.specs.Table.{tree_table}
 use Rattle.schema.specs.Laws.{Once}
 use Rattle.schema.specs.OperationGrammar.{OperationAt}
 use Rattle.schema.specs.OperationReading.{ReadsOperation}
@@ -68,3 +73,7 @@ pub record Shapes : Type 0 where
   pub list : (marks : List Bool) (w : Name) (k : ℕ) → nat_lt 0 k ≡ is_list_type (ty_from marks w k)
   pub null : (marks : List Bool) (w : Name) (k : ℕ) → not (get_or marks k false) ≡ nullable (ty_from marks w k)
   pub item : (marks : List Bool) (w : Name) (k : ℕ) → ty_from marks w (k - 1) ≡ item_of (ty_from marks w k)
+
+-- the tables of an operation hold each use with its own arguments
+pub record Uses : Type 0 where
+  pub each : (B : Name → Base) (o : OperationIn) (D : OperationDocument) → HoldsOperation B o D → Each (UseHeld (tree_table o.tree) (vec_items o.arguments)) (vec_items o.uses) D.uses
