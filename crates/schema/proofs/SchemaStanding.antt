@@ -1,29 +1,30 @@
 -- What is read of a schema is what the grammar has.
-use Rattle.std.proofs.Common.{◌≡◌, ℕ, ◌&&◌, Bool, true, false, cond, codes, List, [], ◌∷◌, sym, refl, ap, ◌∙◌, subst, ⊎_elim, true≢false, nat_lt, arith}
+use Rattle.std.proofs.Common.{◌≡◌, ℕ, Bool, true, false, cond, codes, List, [], ◌∷◌, sym, refl, ap, ◌∙◌, subst, ⊎_elim, true≢false, nat_lt, arith}
 use Rattle.std.proofs.Math.Option.{Option, some, none}
 use Rattle.std.proofs.lemmas.Bool.{cases_Bool, cond-true, cond-false}
-use Rattle.model.specs.Values.{Name, same, Raw, Location}
+use Rattle.model.specs.Values.{Name, same, Location}
 use Rattle.model.proofs.CoNames.{same_true}
 use Rattle.text.specs.declared.fault.Fault.{Fault}
 use Rattle.text.specs.declared.language.Language.TheVariants.{Graphql}
-use Rattle.text.specs.TokenGrammar.{at_sign, open_paren, close_paren, open_brace, close_brace, pipe, colon, equals, Mark, Lexical, a_mark, a_name, a_number, a_string, the_end}
+use Rattle.text.specs.TokenGrammar.{at_sign, open_paren, close_paren, open_brace, close_brace, pipe, Mark, Lexical, a_mark, a_name, a_number, a_string, the_end}
 use Rattle.reader.specs.Tokens.{Sight, sees, blind, Sights, TokenIs}
 use Rattle.reader.specs.Grammar.{name_of_null, name_of_true, name_of_false}
 use Rattle.reader.specs.Reading.{Out, got, fails, is_mark}
 use Rattle.reader.proofs.RdSights.{seen_is}
-use Rattle.reader.proofs.RdSound.{sound, mark_is}
+use Rattle.reader.proofs.RdSound.{mark_is}
 use Rattle.schema.specs.Documents.{Label, Declared, Definition, Document, an_enum, an_input, a_directive}
-use Rattle.schema.specs.Outcomes.{Then, Gives, Maps, Takes, accepted, the_mark, any_name, Chosen, IfToken, Room, Items, i_shut, i_fails, i_more, before, ItemsAt, at_shut, at_more}
-use Rattle.schema.specs.Declarations.{ReadsLiteral, ReadsDefault, ReadsDeclared, DefaultAt, no_default, a_default, DeclaredAt, input_value}
+use Rattle.schema.specs.Outcomes.{Then, Gives, Maps, Takes, accepted, the_mark, any_name, Chosen, IfToken, Room, before, ItemsAt}
+use Rattle.schema.specs.Declarations.{ReadsDeclared, DeclaredAt}
 use Rattle.schema.specs.Locations.{in_table, location_called}
 use Rattle.schema.specs.SchemaGrammar.{ends, LabelAt, a_label, EnumValueAt, enum_value, EnumValuesAt, enum_values, InputFieldsAt, input_fields, ArgumentsAt, no_arguments, some_arguments, RepeatableAt, not_repeatable, is_repeatable, LocationAt, LocationsAt, last_location, more_locations, AllLocationsAt, locations, piped_locations, OutputWord, type_word, interface_word, union_word, DefinitionAt, scalar_at, enum_at, input_at, output_at, directive_at, DocumentAt}
 use Rattle.schema.specs.SchemaGrammar as G
-use Rattle.schema.specs.Types.{ReadsType}
 use Rattle.schema.specs.SchemaReading.{Counts, Sort, s_scalar, s_enum, s_input, s_output, Keyword, k_type, k_directive, keywords, next, nothing, counted, reserved, value_name, is_word, the_word, a_location, a_keyword, ReadsNew, ReadsValueList, ReadsValues, ReadsField, ReadsFieldList, ReadsFields, ReadsArguments, ReadsRepeatable, ReadsManner, ReadsLocations, rs_fails, rs_blind, rs_last, rs_more, ReadsAllLocations, ReadsDirective, ReadsContents, ReadsTypeDefinition, ReadsAfter, ReadsDefinition, ReadsOn, ReadsSchema, schema_read}
-use Rattle.schema.specs.SchemaLaws.{SchemaStands}
+use Rattle.schema.specs.ReadingLaws.{AllOf, DeclaredWithin}
+use Rattle.schema.specs.SchemaLaws.{DefinitionWithin, SchemaStands}
+use Rattle.schema.proofs.WrittenLaws.{declared_stands, items_stand}
 use Rattle.schema.proofs.Entering.{not_got}
 use Rattle.schema.proofs.Seeing.{name_seen, accepted_is}
-use Rattle.schema.proofs.TypeLaws.{type_stands, mark_stands}
+use Rattle.schema.proofs.TypeLaws.{mark_stands}
 
 -- PARTS
 
@@ -129,66 +130,32 @@ module _ (N : ℕ → Sight → Type 0) (T : ℕ → ℕ → ℕ → Lexical →
   value_stands i j l (sees s e the_end, n, h) = not_got h
   value_stands i j l (blind f, n, h) = not_got h
 
-  -- ITEMS
-
-  module _ {S X : Type 0} (closes : Lexical → Bool) (step : S → X → S) (A : S → ℕ → Out X → Type 0) (P : ℕ → ℕ → X → Type 0) (stand : (s : S) (i j : ℕ) (x : X) → A s i (got j x) → P i j x) where
-    abbrev Standing : Bool → ℕ → Out (List X) → Type 0
-    Standing may i (got e xs) = ItemsAt T closes P may i e xs
-    Standing may i (fails f) = Unit {0}
-
-    shut_at : (may : Bool) (i b e : ℕ) (x : Lexical) → T i b e x → may && closes x ≡ true → ItemsAt T closes P may i e []
-    shut_at true i b e x t h = at_shut t h
-    shut_at false i b e x t h = let z : ◌≡◌ {A = ℕ} 0 1 = cc in absurd (omega arith)
-
-    more_at : (may : Bool) (i j : ℕ) (x : X) (q o : Out (List X)) → P i j x → Standing true j q → before x q ≡ o → Standing may i o
-    more_at may i j x (got e xs) o p r z = subst (Standing may i) z (at_more p r)
-    more_at may i j x (fails f) o p r z = subst (Standing may i) z tt
-
-    items_standing : {may : Bool} {s : S} {i : ℕ} {o : Out (List X)} → Items N closes step A may s i o → Standing may i o
-    items_standing {may} {i = i} (i_shut {b = b} {e = e} {x = x} n h) = shut_at may i b e x (seen i b e x n) h
-    items_standing (i_fails n h r) = tt
-    items_standing {may} {s} {i} {o} (i_more {j = j} {x = x} {q = q} n h a r z) = more_at may i j x q o (stand s i j x a) (items_standing r) z
-
-    items_stand : (may : Bool) (s : S) (i e : ℕ) (xs : List X) → Items N closes step A may s i (got e xs) → ItemsAt T closes P may i e xs
-    items_stand may s i e xs r = items_standing r
-
   -- INPUT VALUES
 
-  default_stands : (i k : ℕ) (v : Option Raw) → ReadsDefault N i (got k v) → DefaultAt T i k v
-  default_stands i k v h = by_token (is_mark equals) (λ s. Maps some (ReadsLiteral N)) (Gives none) i k v h
-      (λ s e x t q r. let m = mapped some (ReadsLiteral N) e k v r in subst (DefaultAt T i k) m.is (a_default (mark_at equals i s e x t q) (sound N T seen Graphql false m.reads 1 refl).0))
-      (λ r. subst (λ j. DefaultAt T i j v) (got_at r) (subst (DefaultAt T i i) (got_is r) no_default))
-
-  declared_stands : (h i k : ℕ) (l : Label) (d : Declared) → T h l.place i (a_name l.name) → ReadsDeclared N l i (got k d) → DeclaredAt T h k d
-  declared_stands h i k l d t r =
-      let p = parts (Takes N (the_mark colon)) (λ s. Then (ReadsType N 8) (λ t. Maps (λ v. record { label = l; typed = t; dflt = v }) (ReadsDefault N))) i k d r in
-      let q = parts (ReadsType N 8) (λ t. Maps (λ v. record { label = l; typed = t; dflt = v }) (ReadsDefault N)) p.at k d p.rest in
-      let m = mapped (λ v. record { label = l; typed = q.first; dflt = v }) (ReadsDefault N) q.at k d q.rest in
-      subst (DeclaredAt T h k) m.is (input_value t (mark_stands N T seen colon i p.at p.first p.reads).1 (type_stands N T seen 8 p.at q.at q.first q.reads).0 (default_stands q.at k m.value m.reads))
-
-  field_stands : (most n i j : ℕ) (d : Declared) → ReadsField N most n i (got j d) → DeclaredAt T i j d
+  field_stands : (most n i j : ℕ) (d : Declared) → ReadsField N most n i (got j d) → DeclaredAt T i j d × DeclaredWithin d
   field_stands most n i j d r =
       let p = parts (ReadsNew N most n any_name) (ReadsDeclared N) i j d r in
-      declared_stands i p.at j p.first d (name_stands i p.at p.first (new_reads most n any_name i p.at p.first p.reads)) p.rest
+      declared_stands N T seen i p.at j p.first d (name_stands i p.at p.first (new_reads most n any_name i p.at p.first p.reads)) p.rest
 
-  field_list_stands : (close : Lexical → Bool) (most n i j : ℕ) (ds : List Declared) → ReadsFieldList N close most n i (got j ds) → ItemsAt T close (DeclaredAt T) false i j ds
-  field_list_stands close most n i j ds r = items_stand close next (ReadsField N most) (DeclaredAt T) (λ k. field_stands most k) false n i j ds r
+  field_list_stands : (close : Lexical → Bool) (most n i j : ℕ) (ds : List Declared) → ReadsFieldList N close most n i (got j ds) → ItemsAt T close (DeclaredAt T) false i j ds × AllOf DeclaredWithin ds
+  field_list_stands close most n i j ds r = items_stand N T seen close next (ReadsField N most) (DeclaredAt T) DeclaredWithin (λ k. field_stands most k) false n i j ds r
 
-  fields_stand : (n i j : ℕ) (ds : List Declared) → ReadsFields N n i (got j ds) → InputFieldsAt T i j ds
+  fields_stand : (n i j : ℕ) (ds : List Declared) → ReadsFields N n i (got j ds) → InputFieldsAt T i j ds × AllOf DeclaredWithin ds
   fields_stand n i j ds r =
       let p = parts (Takes N (the_mark open_brace)) (λ s. ReadsFieldList N (is_mark close_brace) 1024 n) i j ds r in
-      input_fields (mark_stands N T seen open_brace i p.at p.first p.reads).1 (field_list_stands (is_mark close_brace) 1024 n p.at j ds p.rest)
+      let q = field_list_stands (is_mark close_brace) 1024 n p.at j ds p.rest in
+      (input_fields (mark_stands N T seen open_brace i p.at p.first p.reads).1 q.0, q.1)
 
   values_stand : (n i j : ℕ) (vs : List Label) → ReadsValues N n i (got j vs) → EnumValuesAt T i j vs
   values_stand n i j vs r =
       let p = parts (Takes N (the_mark open_brace)) (λ s. ReadsValueList N n) i j vs r in
       enum_values (mark_stands N T seen open_brace i p.at p.first p.reads).1
-      (items_stand (is_mark close_brace) next (λ k. ReadsNew N 1024 k value_name) (EnumValueAt T) (λ k b e l h. value_stands b e l (new_reads 1024 k value_name b e l h)) false n p.at j vs p.rest)
+      (items_stand N T seen (is_mark close_brace) next (λ k. ReadsNew N 1024 k value_name) (EnumValueAt T) (λ l. Unit {0}) (λ k b e l h. (value_stands b e l (new_reads 1024 k value_name b e l h), tt)) false n p.at j vs p.rest).0
 
-  arguments_stand : (n i j : ℕ) (ds : List Declared) → ReadsArguments N n i (got j ds) → ArgumentsAt T i j ds
+  arguments_stand : (n i j : ℕ) (ds : List Declared) → ReadsArguments N n i (got j ds) → ArgumentsAt T i j ds × AllOf DeclaredWithin ds
   arguments_stand n i j ds r = by_token (is_mark open_paren) (λ s. ReadsFieldList N (is_mark close_paren) 256 n) (Gives []) i j ds r
-      (λ s e x t q h. some_arguments (mark_at open_paren i s e x t q) (field_list_stands (is_mark close_paren) 256 n e j ds h))
-      (λ h. subst (λ k. ArgumentsAt T i k ds) (got_at h) (subst (ArgumentsAt T i i) (got_is h) no_arguments))
+      (λ s e x t q h. let f = field_list_stands (is_mark close_paren) 256 n e j ds h in (some_arguments (mark_at open_paren i s e x t q) f.0, f.1))
+      (λ h. subst (λ k. ArgumentsAt T i k ds × AllOf DeclaredWithin ds) (got_at h) (subst (λ x. ArgumentsAt T i i x × AllOf DeclaredWithin x) (got_is h) (no_arguments, tt)))
 
   -- DIRECTIVES
 
@@ -222,7 +189,10 @@ module _ (N : ℕ → Sight → Type 0) (T : ℕ → ℕ → ℕ → Lexical →
   all_locations_stand : (i j : ℕ) (ls : List Location) → ReadsAllLocations N i (got j ls) → AllLocationsAt T i j ls
   all_locations_stand i j ls r = by_token (is_mark pipe) (λ s. ReadsLocations N) (ReadsLocations N) i j ls r (λ s e x t q h. piped_locations (mark_at pipe i s e x t q) (locations_standing h)) (λ h. locations (locations_standing h))
 
-  directive_stands : (c : Counts) (i s e m : ℕ) (d : Definition) → T i s e (a_name (codes "directive")) → ReadsDirective N c e (got m d) → DefinitionAt T i m d
+  abbrev Found : ℕ → ℕ → Definition → Type 0
+  Found i m d = DefinitionAt T i m d × DefinitionWithin d
+
+  directive_stands : (c : Counts) (i s e m : ℕ) (d : Definition) → T i s e (a_name (codes "directive")) → ReadsDirective N c e (got m d) → Found i m d
   directive_stands c i s e m d t r =
       let a = parts (Takes N (the_mark at_sign)) (λ s. Then (ReadsNew N 64 c.directives any_name) (λ l. Then (ReadsArguments N c.arguments) (λ ds. Then (ReadsManner N) (λ r. Maps (a_directive l ds r) (ReadsAllLocations N))))) e m d r in
       let b = parts (ReadsNew N 64 c.directives any_name) (λ l. Then (ReadsArguments N c.arguments) (λ ds. Then (ReadsManner N) (λ r. Maps (a_directive l ds r) (ReadsAllLocations N)))) a.at m d a.rest in
@@ -231,8 +201,12 @@ module _ (N : ℕ → Sight → Type 0) (T : ℕ → ℕ → ℕ → Lexical →
       let k = mapped (a_directive b.first g.first h.first) (ReadsAllLocations N) h.at m d h.rest in
       let p = parts (ReadsRepeatable N) (λ r. Maps (λ s. r) (Takes N (the_word (codes "on")))) g.at h.at h.first h.reads in
       let q = mapped (λ s. p.first) (Takes N (the_word (codes "on"))) p.at h.at h.first p.rest in
-      subst (DefinitionAt T i m) k.is (directive_at t (mark_stands N T seen at_sign e a.at a.first a.reads).1 (label_stands a.at b.at b.first (new_reads 64 c.directives any_name a.at b.at b.first b.reads)) (arguments_stand c.arguments b.at g.at g.first g.reads)
-      (subst (RepeatableAt T g.at p.at) q.is (repeatable_stands g.at p.at p.first p.reads)) (word_stands (codes "on") p.at h.at q.value q.reads).1 (all_locations_stand h.at m k.value k.reads))
+      let ar = arguments_stand c.arguments b.at g.at g.first g.reads in
+      subst (Found i m) k.is (
+        directive_at t (mark_stands N T seen at_sign e a.at a.first a.reads).1 (label_stands a.at b.at b.first (new_reads 64 c.directives any_name a.at b.at b.first b.reads)) ar.0
+            (subst (RepeatableAt T g.at p.at) q.is (repeatable_stands g.at p.at p.first p.reads)) (word_stands (codes "on") p.at h.at q.value q.reads).1 (all_locations_stand h.at m k.value k.reads),
+        (tt, ar.1),
+      )
 
   -- TYPES
 
@@ -241,23 +215,24 @@ module _ (N : ℕ → Sight → Type 0) (T : ℕ → ℕ → ℕ → Lexical →
       let p = parts (ReadsNew N 256 c.types any_name) (λ l. ReadsContents N c l k) e m d r in
       (p.first, p.at, label_stands e p.at p.first (new_reads 256 c.types any_name e p.at p.first p.reads), p.rest)
 
-  scalar_stands : (c : Counts) (i s e m : ℕ) (d : Definition) → T i s e (a_name (codes "scalar")) → ReadsTypeDefinition N c s_scalar e (got m d) → DefinitionAt T i m d
-  scalar_stands c i s e m d t r = let p = named_type c s_scalar e m d r in subst (λ k. DefinitionAt T i k d) (got_at p.3) (subst (DefinitionAt T i p.1) (got_is p.3) (scalar_at t p.2))
+  scalar_stands : (c : Counts) (i s e m : ℕ) (d : Definition) → T i s e (a_name (codes "scalar")) → ReadsTypeDefinition N c s_scalar e (got m d) → Found i m d
+  scalar_stands c i s e m d t r = let p = named_type c s_scalar e m d r in subst (λ k. Found i k d) (got_at p.3) (subst (Found i p.1) (got_is p.3) (scalar_at t p.2, (tt, tt)))
 
-  output_stands : (c : Counts) (i s e m : ℕ) (w : Name) (d : Definition) → OutputWord w → T i s e (a_name w) → ReadsTypeDefinition N c s_output e (got m d) → DefinitionAt T i m d
-  output_stands c i s e m w d o t r = let p = named_type c s_output e m d r in subst (λ k. DefinitionAt T i k d) (got_at p.3) (subst (DefinitionAt T i p.1) (got_is p.3) (output_at o t p.2))
+  output_stands : (c : Counts) (i s e m : ℕ) (w : Name) (d : Definition) → OutputWord w → T i s e (a_name w) → ReadsTypeDefinition N c s_output e (got m d) → Found i m d
+  output_stands c i s e m w d o t r = let p = named_type c s_output e m d r in subst (λ k. Found i k d) (got_at p.3) (subst (Found i p.1) (got_is p.3) (output_at o t p.2, (tt, tt)))
 
-  enum_stands : (c : Counts) (i s e m : ℕ) (d : Definition) → T i s e (a_name (codes "enum")) → ReadsTypeDefinition N c s_enum e (got m d) → DefinitionAt T i m d
+  enum_stands : (c : Counts) (i s e m : ℕ) (d : Definition) → T i s e (a_name (codes "enum")) → ReadsTypeDefinition N c s_enum e (got m d) → Found i m d
   enum_stands c i s e m d t r =
       let p = named_type c s_enum e m d r in
       let q = mapped (an_enum p.0) (ReadsValues N c.values) p.1 m d p.3 in
-      subst (DefinitionAt T i m) q.is (enum_at t p.2 (values_stand c.values p.1 m q.value q.reads))
+      subst (Found i m) q.is (enum_at t p.2 (values_stand c.values p.1 m q.value q.reads), (tt, tt))
 
-  input_stands : (c : Counts) (i s e m : ℕ) (d : Definition) → T i s e (a_name (codes "input")) → ReadsTypeDefinition N c s_input e (got m d) → DefinitionAt T i m d
+  input_stands : (c : Counts) (i s e m : ℕ) (d : Definition) → T i s e (a_name (codes "input")) → ReadsTypeDefinition N c s_input e (got m d) → Found i m d
   input_stands c i s e m d t r =
       let p = named_type c s_input e m d r in
       let q = mapped (an_input p.0) (ReadsFields N c.inputs) p.1 m d p.3 in
-      subst (DefinitionAt T i m) q.is (input_at t p.2 (fields_stand c.inputs p.1 m q.value q.reads))
+      let f = fields_stand c.inputs p.1 m q.value q.reads in
+      subst (Found i m) q.is (input_at t p.2 f.0, (f.1, tt))
 
   -- DEFINITIONS
 
@@ -269,13 +244,13 @@ module _ (N : ℕ → Sight → Type 0) (T : ℕ → ℕ → ℕ → Lexical →
   keyword_stands i j k (sees s e the_end, n, h) = not_got h
   keyword_stands i j k (blind f, n, h) = not_got h
 
-  definition_stands : (c : Counts) (i m : ℕ) (d : Definition) → ReadsDefinition N c i (got m d) → DefinitionAt T i m d
+  definition_stands : (c : Counts) (i m : ℕ) (d : Definition) → ReadsDefinition N c i (got m d) → Found i m d
   definition_stands c i m d r =
       let p = parts (Takes N a_keyword) (ReadsAfter N c) i m d r in
       let k = keyword_stands i p.at p.first p.reads in
       let t = λ (w : Name) (e : w ≡ k.1). subst (λ v. T i k.0 p.at (a_name v)) (sym e) k.2 in
       let a = λ (x : Keyword) (e : x ≡ p.first). subst (λ y. ReadsAfter N c y p.at (got m d)) (sym e) p.rest in
-      let rows : Rows (DefinitionAt T i m d) keywords k.1 p.first = (
+      let rows : Rows (Found i m d) keywords k.1 p.first = (
         λ e f. directive_stands c i k.0 p.at m d (t _ e) (a k_directive f),
         (
           λ e f. scalar_stands c i k.0 p.at m d (t _ e) (a (k_type s_scalar) f),
@@ -294,12 +269,12 @@ module _ (N : ℕ → Sight → Type 0) (T : ℕ → ℕ → ℕ → Lexical →
           ),
         ),
       ) in
-      by_rows (DefinitionAt T i m d) keywords k.1 p.first k.3 rows
+      by_rows (Found i m d) keywords k.1 p.first k.3 rows
 
-  pub document_stands : (e : ℕ) (D : Document) → ReadsOn N nothing 0 (got e D) → DocumentAt T e D
-  document_stands e D r = items_stand ends counted (ReadsDefinition N) (DefinitionAt T) definition_stands true nothing 0 e D r
+  pub document_stands : (e : ℕ) (D : Document) → ReadsOn N nothing 0 (got e D) → DocumentAt T e D × AllOf DefinitionWithin D
+  document_stands e D r = items_stand N T seen ends counted (ReadsDefinition N) (DefinitionAt T) DefinitionWithin definition_stands true nothing 0 e D r
 
-stands_in : (text : List ℕ) (e : ℕ) (D : Document) → ReadsSchema text (got e D) → DocumentAt (TokenIs Graphql text) e D
+stands_in : (text : List ℕ) (e : ℕ) (D : Document) → ReadsSchema text (got e D) → DocumentAt (TokenIs Graphql text) e D × AllOf DefinitionWithin D
 stands_in text e D (schema_read h r) = document_stands (Sights Graphql text) (TokenIs Graphql text) (λ i s e x n. seen_is n) e D r
 
 pub schema_stands : SchemaStands

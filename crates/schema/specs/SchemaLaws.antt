@@ -4,12 +4,17 @@ use Rattle.text.specs.declared.language.Language.TheVariants.{Graphql}
 use Rattle.reader.specs.Tokens.{TokenIs}
 use Rattle.reader.specs.Reading.{Out, got}
 use Rattle.schema.specs.SchemaGrammar.{DocumentAt}
-use Rattle.schema.specs.Documents.{Document, types_in, directives_in}
-use Rattle.schema.specs.SchemaReading.{values_in, inputs_in, arguments_in, ReadsSchema}
+use Rattle.schema.specs.Documents.{Definition, Document, types_in, directives_in}
+use Rattle.schema.specs.ReadingLaws.{AllOf, DeclaredWithin}
+use Rattle.schema.specs.SchemaReading.{inputs_of, arguments_of, values_in, inputs_in, arguments_in, ReadsSchema}
 
--- what is read is what the grammar has
+-- the types and defaults of a definition are within the limits
+abbrev pub DefinitionWithin : Definition → Type 0
+DefinitionWithin d = AllOf DeclaredWithin (inputs_of d) × AllOf DeclaredWithin (arguments_of d)
+
+-- what is read is what the grammar has, with types and defaults within the limits
 pub record SchemaStands : Type 0 where
-  pub stands : (text : List ℕ) (e : ℕ) (D : Document) → ReadsSchema text (got e D) → DocumentAt (TokenIs Graphql text) e D
+  pub stands : (text : List ℕ) (e : ℕ) (D : Document) → ReadsSchema text (got e D) → DocumentAt (TokenIs Graphql text) e D × AllOf DefinitionWithin D
 
 -- a document within the limits of its counts
 pub record Within (D : Document) : Type 0 where
