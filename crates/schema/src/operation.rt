@@ -149,6 +149,7 @@ pub fn read_operation<'a>(
 ) -> Result<Operation<'a>, Fault>
     ensures few { IfOk result (λ o. vec_len o.variables ≤ 64) }
     ensures told { (S : Document) → Holds schema.now S → OperationTold (base_in S) text.now result }
+    ensures text { IfOk result (λ o. o.tree.text.now ≡ text.now) }
 {
     let mut tokens = Tokens::new(text)?;
     let kind = operation_kind(&mut tokens)?;
