@@ -1,5 +1,5 @@
 -- What is noted one after another.
-use Rattle.std.proofs.Common.{◌≡◌, ℕ, zero, suc, ◌+◌, ◌-◌, ◌^◌, ◌≤◌, min, List, [], ◌∷◌, ◌++◌, length, refl, ap, sym, ◌∙◌, set, length-append, arith, ⊎_elim}
+use Rattle.std.proofs.Common.{◌≡◌, ℕ, zero, suc, ◌+◌, ◌-◌, ◌^◌, ◌≤◌, min, List, [], ◌∷◌, ◌++◌, length, refl, ap, sym, ◌∙◌, set, length-append, append_assoc, subst, arith, ⊎_elim}
 use Rattle.std.proofs.lemmas.Bool.{cases_lt}
 use Rattle.std.proofs.lemmas.List.{append-nil, length-map}
 use Rattle.model.specs.Checking.{Finding}
@@ -60,3 +60,16 @@ then_noted {a} {b} {c} {xs} {ys} g h = record {
 -- nothing is found
 pub none_found : (a : Diagnostics) → Noted a a []
 none_found a = record { same = refl; place = sym (none_noted (findings a.place.now) a.total); total = omega arith }
+
+-- b was made of a, and what is found from b on is found from a on with what was found before
+abbrev pub Onwards : Diagnostics → Diagnostics → List Finding → List Finding → Type 0
+Onwards a b rest whole = (xs : List Finding) × Noted a b xs × (xs ++ rest ≡ whole)
+
+pub onwards_start : (a : Diagnostics) (fs : List Finding) → Onwards a a fs fs
+onwards_start a fs = ([], none_found a, refl)
+
+pub onwards_step : {a b c : Diagnostics} {xs rest whole : List Finding} → Onwards a b (xs ++ rest) whole → Noted b c xs → Onwards a c rest whole
+onwards_step {xs = xs} {rest} (ys, g, e) h = (ys ++ xs, then_noted g h, append_assoc ys xs rest ∙ e)
+
+pub onwards_end : {a b : Diagnostics} {whole : List Finding} → Onwards a b [] whole → Noted a b whole
+onwards_end {a} {b} (ys, g, e) = subst (Noted a b) (sym (append-nil ys) ∙ e) g

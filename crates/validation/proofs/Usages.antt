@@ -7,7 +7,7 @@ use Rattle.model.specs.Values.{Name, Ty, named, list_of, nullable, Field, same}
 use Rattle.model.specs.Checking.{as_nullable, compatible, is_value, usage_allowed}
 use Rattle.schema.specs.Types.{ty_from}
 
-not_not : (b : Bool) → not (not b) ≡ b
+pub not_not : (b : Bool) → not (not b) ≡ b
 not_not true = refl
 not_not false = refl
 
@@ -116,3 +116,10 @@ pub usage_parts : (v : Field) (d : Bool) (l : Ty) → usage_allowed v d l ≡ (c
 usage_parts v d l =
     ap (λ c. cond (not (nullable l) && nullable v.ty) ((is_value v.dflt || d) && compatible v.ty (as_nullable l)) c) (null_apart v.ty l)
     ∙ usage (not (nullable l) && nullable v.ty) d (is_value v.dflt) (compatible v.ty (as_nullable l))
+
+-- a field lacks a value: none of its parts is there
+pub all_lack : (n a b r h v : Bool) → r ≡ not n → h ≡ a → h ≡ false → v ≡ b → v ≡ false → r ≡ (not n && (not a && not b))
+all_lack n a b r h v e f p g q =
+    let x : a ≡ false = sym f ∙ p in
+    let y : b ≡ false = sym g ∙ q in
+    rw (x, y) (e ∙ and_true (not n))
