@@ -3,3 +3,4 @@ pub mod Followed
 pub mod Steps
 pub mod Writing
 pub mod Contents
+pub mod Nexts

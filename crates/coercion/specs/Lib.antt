@@ -4,3 +4,4 @@ pub mod Levels
 pub mod States
 pub mod Bodies
 pub mod Openings
+pub mod Told

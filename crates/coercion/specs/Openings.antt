@@ -33,6 +33,7 @@ AsksIs D (Some i) (some n) = base_in D n ≡ Custom i
 -- what is still to come, by the cursors of a source
 pub data RestIs (stands : ℕ → Raw → Type 0) (items_in : Span → Raws → Type 0) (members_in : Span → Mems → Type 0) (D : Document) : Option RestIn → Option (Shape Base) → Rest → Type 0 where
   single_is : {at : ℕ} {s : Shape Base} {rs : Recs} {t : Ty} {x : Raw} → stands at x → ShapeIs D s t → RestIs stands items_in members_in D (Some (Single at)) (Some s) (items rs t (cons x nil))
+  single_taken : {s : Shape Base} {rs : Recs} {t : Ty} → ShapeIs D s t → RestIs stands items_in members_in D None (Some s) (items rs t nil)
   items_are : {span : Span} {s : Shape Base} {rs : Recs} {t : Ty} {xs : Raws} → items_in span xs → ShapeIs D s t → RestIs stands items_in members_in D (Some (Items span)) (Some s) (items rs t xs)
   contents_are : {span : Span} {rs : Recs} {xs : Raws} → items_in span xs → RestIs stands items_in members_in D (Some (Items span)) None (kept rs xs)
   members_are : {span : Span} {rs : Rmems} {ms : Mems} → members_in span ms → RestIs stands items_in members_in D (Some (Members span)) None (members rs ms)

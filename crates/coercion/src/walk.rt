@@ -1,15 +1,17 @@
 // The walk of a raw value at its type.
-ghost use Rattle.std.specs.Prelude.{◌≡◌, ◌+◌, ◌^◌, ◌<◌, ◌≤◌, false, cond, length, IfOk, IfSome, OnOk};
+ghost use Rattle.std.specs.Prelude.{◌≡◌, ℕ, ◌+◌, ◌^◌, ◌<◌, ◌≤◌, false, cond, length, IfOk, IfSome, OnOk};
 ghost use Rattle.record.specs.Held.{size, Kept};
 ghost use mathlib.Core.Option.{Option as Perhaps};
-ghost use Rattle.model.specs.Values.{Name, Raw, place_of};
+ghost use Rattle.model.specs.Values.{Name, Raw, Form, place_of};
+ghost use Rattle.model.specs.Refusals.{Here};
 ghost use Rattle.record.specs.declared.body.Body.TheVariants.{List as ListBody};
 ghost use Rattle.source.specs.Heads.{kind_of};
 ghost use Rattle.schema.specs.Documents.{Document};
 ghost use Rattle.coercion.specs.Frames.{Rooted, Stacked, left};
-ghost use Rattle.coercion.specs.Levels.{opens_kept};
+ghost use Rattle.coercion.specs.Levels.{opens_kept, follows, Rest as OpenRest};
 ghost use Rattle.coercion.specs.States.{Opened};
-ghost use Rattle.coercion.specs.Openings.{AsksIs, OpensAs};
+ghost use Rattle.coercion.specs.Openings.{AsksIs, OpensAs, RestIs};
+ghost use Rattle.coercion.specs.Told.{FieldIs, NextIs};
 
 use crate::fault::{Spot, ValueFault};
 use crate::frames::{Frame, Frames, Inside, Rest};
@@ -417,20 +419,26 @@ impl<'w, 's, S: Source, R: ScalarRule> Walk<'w, 's, S, R> {
 
     // The first of the values that are still to come in a record, and the record without it.
     fn next(&self, frame: Frame) -> Result<Option<(Step<'w>, Frame)>, ValueFault>
-        ensures { IfOk result (λ o. IfSome o (λ p. p.1.start ≡ frame.start)) }
+        ensures told { (D : Document) (k : ℕ) (p : Form) (h : Here) (x : OpenRest) → RestIs (S.stands self.now.source.now) (S.items self.now.source.now) (S.members self.now.source.now) D frame.inside.rest frame.inside.shape x → FieldIs self.now.schema.now.fields.items frame.field h.field → frame.in_default ≡ h.in_default → NextIs (S.stands self.now.source.now) (S.items self.now.source.now) (S.members self.now.source.now) self.now.schema.now.fields.items D frame result (follows k p h x) }
+        ensures same { IfOk result (λ o. IfSome o (λ p. p.1.start ≡ frame.start)) }
     {
         let source = self.source;
         match frame.inside.rest {
             None => Ok(None),
             Some(Rest::Single(at)) => Ok(Some(frame.value(None, at, None))),
-            Some(Rest::Items(span)) => Ok(
-                source.next(span).map(|(at, span)| frame.value(None, at, Some(Rest::Items(span)))),
-            ),
-            Some(Rest::Members(span)) => Ok(
-                source.next(span).map(|(at, span)| {
-                    frame.value(Some(source.name(at)), at, Some(Rest::Members(span)))
-                }),
-            ),
+            Some(Rest::Items(span)) => {
+                let Some((at, span)) = source.next(span) else {
+                    return Ok(None);
+                };
+                Ok(Some(frame.value(None, at, Some(Rest::Items(span)))))
+            }
+            Some(Rest::Members(span)) => {
+                let Some((at, span)) = source.next(span) else {
+                    return Ok(None);
+                };
+                let name = source.name(at);
+                Ok(Some(frame.value(Some(name), at, Some(Rest::Members(span)))))
+            }
             Some(Rest::Fields { members, fields }) => self.next_field(frame, members, fields),
         }
     }
