@@ -4,3 +4,4 @@ pub mod Steps
 pub mod Writing
 pub mod Contents
 pub mod Nexts
+pub mod Members

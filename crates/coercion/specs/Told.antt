@@ -3,7 +3,7 @@ use Rattle.std.specs.Prelude.{◌≡◌, ℕ, ◌<◌, List, length, get_or, con
 use mathlib.Core.Option.{none, some}
 use Rattle.text.specs.declared.language.Language.{Language}
 use Rattle.text.specs.declared.language.Language.TheVariants.{Json, Graphql}
-use Rattle.model.specs.Values.{Name, Form, json, literal, Raw, Raws, Mems, place_of, Ty}
+use Rattle.model.specs.Values.{Name, Form, json, literal, Raw, Raws, Mems, place_of, Ty, mem}
 use Rattle.model.specs.Refusals.{number_of as cause_number, Refusal, Here}
 use Rattle.source.specs.declared.raw.Span.{Span}
 use Rattle.schema.specs.declared.types.Base.{Base}
@@ -93,3 +93,15 @@ NextIs stands items_in members_in rows D f (Err e) nothing = ⊥
 NextIs stands items_in members_in rows D f (Err e) (next c y) = ⊥
 NextIs stands items_in members_in rows D f (Err e) (missing n) = Unit {0}
 NextIs stands items_in members_in rows D f (Err e) too_far = Unit {0}
+
+-- members that are left of an object's
+pub data Later : Mems → Mems → Type 0 where
+  all : {ms : Mems} → Later ms ms
+  past : {n : Name} {x : Raw} {ns ms : Mems} → Later ns ms → Later ns (mem n x ms)
+
+-- the member with a name, and members that are left
+abbrev pub MemberTold : (stands : ℕ → Raw → Type 0) (members_in : Span → Mems → Type 0) → Mems → mathlib.Core.Option.Option Raw → Option (ℕ × Span) → Type 0
+MemberTold stands members_in ms none None = Unit {0}
+MemberTold stands members_in ms none (Some p) = ⊥
+MemberTold stands members_in ms (some x) None = ⊥
+MemberTold stands members_in ms (some x) (Some p) = stands p.0 x × ((ns : Mems) × Later ns ms × members_in p.1 ns)

@@ -2,7 +2,8 @@
 ghost use Rattle.std.specs.Prelude.{◌≡◌, ℕ, ◌+◌, ◌^◌, ◌<◌, ◌≤◌, false, cond, length, IfOk, IfSome, OnOk};
 ghost use Rattle.record.specs.Held.{size, Kept};
 ghost use mathlib.Core.Option.{Option as Perhaps};
-ghost use Rattle.model.specs.Values.{Name, Raw, Form, place_of};
+ghost use Rattle.model.specs.Values.{Name, Raw, Mems, Form, place_of, object as object_at};
+ghost use Rattle.model.specs.Coercion.{member as member_of};
 ghost use Rattle.model.specs.Refusals.{Here};
 ghost use Rattle.record.specs.declared.body.Body.TheVariants.{List as ListBody};
 ghost use Rattle.source.specs.Heads.{kind_of};
@@ -11,7 +12,7 @@ ghost use Rattle.coercion.specs.Frames.{Rooted, Stacked, left};
 ghost use Rattle.coercion.specs.Levels.{opens_kept, follows, Rest as OpenRest};
 ghost use Rattle.coercion.specs.States.{Opened};
 ghost use Rattle.coercion.specs.Openings.{AsksIs, OpensAs, RestIs};
-ghost use Rattle.coercion.specs.Told.{FieldIs, NextIs};
+ghost use Rattle.coercion.specs.Told.{FieldIs, NextIs, Later, MemberTold};
 
 use crate::fault::{Spot, ValueFault};
 use crate::frames::{Frame, Frames, Inside, Rest};
@@ -356,7 +357,9 @@ impl<'w, 's, S: Source, R: ScalarRule> Walk<'w, 's, S, R> {
     }
 
     // The member with the name of an object, and the members after it that are not looked at yet.
-    fn member(&self, object: usize, members: Span, name: &[u8]) -> Option<(usize, Span)> {
+    fn member(&self, object: usize, members: Span, name: &[u8]) -> Option<(usize, Span)>
+        ensures { (p : ℕ) (ms ns : Mems) → S.stands self.now.source.now object (object_at p ms) → Later ns ms → S.members self.now.source.now members ns → MemberTold (S.stands self.now.source.now) (S.members self.now.source.now) ms (member_of ms name.now) result }
+    {
         match self.source.next(members) {
             Some((at, rest)) if self.source.name(at) == name => Some((at, rest)),
             _ => Some((self.source.member(object, name)?, members)),
