@@ -19,3 +19,4 @@ pub mod Twices
 pub mod Usages
 pub mod MembersTwice
 pub mod OperationFaults
+pub mod OperationMaking

@@ -5,3 +5,4 @@ pub mod Literals
 pub mod Making
 pub mod Places
 pub mod Repeats
+pub mod OperationMade

@@ -2,6 +2,9 @@
 #![tactic(auto)]
 
 ghost use Rattle.std.specs.Prelude.{◌≤◌, IfOk, vec_len};
+ghost use Rattle.schema.specs.Documents.{Document};
+ghost use Rattle.schema.specs.Holds.{Holds};
+ghost use Rattle.validation.specs.OperationMade.{MakesOperation};
 
 pub mod cycle;
 pub mod defaults;
@@ -55,10 +58,13 @@ pub fn make_operation<'a>(
     schema: &Schema<'_>,
     text: &'a [u8],
 ) -> Result<Operation<'a>, MakeFault>
-    ensures { IfOk result (λ o. vec_len o.variables ≤ 64) }
+    ensures told { (S : Document) → Holds schema.now S → MakesOperation S text.now result }
+    ensures few { IfOk result (λ o. vec_len o.variables ≤ 64) }
 {
     let operation = operation::read_operation(heap, schema, text)?;
-    no_repeated(operations::repeated_name(heap, &operation)?)?;
+    if let Some(at) = operations::repeated_name(heap, &operation)? {
+        return Err(MakeFault::Text(Fault::RepeatedName(at)));
+    }
     if let Some(at) = operations::unknown_type(&operation) {
         return Err(MakeFault::UnknownType(at));
     }
