@@ -3,7 +3,7 @@ use Rattle.std.specs.Prelude.{◌≡◌, ℕ, ◌<◌, List, length, get_or, con
 use mathlib.Core.Option.{none, some}
 use Rattle.text.specs.declared.language.Language.{Language}
 use Rattle.text.specs.declared.language.Language.TheVariants.{Json, Graphql}
-use Rattle.model.specs.Values.{Name, Form, json, literal, Raw, Raws, Mems, place_of, Ty, mem}
+use Rattle.model.specs.Values.{Name, Form, json, literal, Raw, Raws, Mems, place_of, Ty, mem, Plain, r_plain}
 use Rattle.model.specs.Refusals.{number_of as cause_number, Refusal, Here}
 use Rattle.source.specs.declared.raw.Span.{Span}
 use Rattle.schema.specs.declared.types.Base.{Base}
@@ -16,7 +16,8 @@ use Rattle.coercion.specs.declared.frames.Frame.{Frame}
 use Rattle.coercion.specs.declared.walk.Step.{Step}
 use Rattle.coercion.specs.Faults.{number_of, layer_of, spot_of}
 use Rattle.coercion.specs.Levels.{Opens, whole, holds, fails, Level, Coming, Rest, Follows, nothing, next, missing, too_far}
-use Rattle.coercion.specs.Bodies.{NameIs}
+use Rattle.record.specs.declared.body.Body.{Body}
+use Rattle.coercion.specs.Bodies.{NameIs, Writes}
 use Rattle.coercion.specs.Openings.{ShapeIs, AsksIs, RestIs}
 
 -- the form of what is written in a language
@@ -105,3 +106,10 @@ MemberTold stands members_in ms none None = Unit {0}
 MemberTold stands members_in ms none (Some p) = ⊥
 MemberTold stands members_in ms (some x) None = ⊥
 MemberTold stands members_in ms (some x) (Some p) = stands p.0 x × ((ns : Mems) × Later ns ms × members_in p.1 ns)
+
+-- the body is what a type keeps of a scalar, or it keeps nothing
+abbrev pub PlainTold : Option Body → mathlib.Core.Option.Option Plain → Type 0
+PlainTold None none = Unit {0}
+PlainTold None (some x) = ⊥
+PlainTold (Some b) none = ⊥
+PlainTold (Some b) (some x) = Writes b (r_plain x)

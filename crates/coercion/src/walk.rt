@@ -1,18 +1,20 @@
 // The walk of a raw value at its type.
-ghost use Rattle.std.specs.Prelude.{◌≡◌, ℕ, ◌+◌, ◌^◌, ◌<◌, ◌≤◌, false, cond, length, IfOk, IfSome, OnOk};
+ghost use Rattle.std.specs.Prelude.{◌≡◌, ℕ, ◌+◌, ◌^◌, ◌<◌, ◌≤◌, false, cond, length, map, IfOk, IfSome, OnOk};
 ghost use Rattle.record.specs.Held.{size, Kept};
 ghost use mathlib.Core.Option.{Option as Perhaps};
-ghost use Rattle.model.specs.Values.{Name, Raw, Mems, Form, place_of, object as object_at};
+ghost use Rattle.model.specs.Values.{Name, Scalar, scalar as scalar_at, Raw, Mems, Form, place_of, object as object_at};
 ghost use Rattle.model.specs.Coercion.{member as member_of};
 ghost use Rattle.model.specs.Refusals.{Here};
 ghost use Rattle.record.specs.declared.body.Body.TheVariants.{List as ListBody};
-ghost use Rattle.source.specs.Heads.{kind_of};
+ghost use Rattle.model.specs.Scalars.{as_enum};
+ghost use Rattle.source.specs.Heads.{kind_of, scalar_kind};
+ghost use Rattle.schema.specs.Spans.{rows_in, inside_at};
 ghost use Rattle.schema.specs.Documents.{Document};
 ghost use Rattle.coercion.specs.Frames.{Rooted, Stacked, left};
 ghost use Rattle.coercion.specs.Levels.{opens_kept, follows, Rest as OpenRest};
 ghost use Rattle.coercion.specs.States.{Opened};
 ghost use Rattle.coercion.specs.Openings.{AsksIs, OpensAs, RestIs};
-ghost use Rattle.coercion.specs.Told.{FieldIs, NextIs, Later, MemberTold};
+ghost use Rattle.coercion.specs.Told.{form_of, PlainTold, FieldIs, NextIs, Later, MemberTold};
 
 use crate::fault::{Spot, ValueFault};
 use crate::frames::{Frame, Frames, Inside, Rest};
@@ -166,7 +168,7 @@ impl<'w, 's, S: Source, R: ScalarRule> Walk<'w, 's, S, R> {
             Kind::Whole => decimal::of_whole(text),
             _ => return None,
         };
-        let fits = match (kind, S::FORM) {
+        let fits = match (kind, source.written()) {
             (Kind::Whole, Language::Json) => scalars::safe_integer(text),
             _ => scalars::finite(digits, scale.exponent),
         };
@@ -174,9 +176,11 @@ impl<'w, 's, S: Source, R: ScalarRule> Walk<'w, 's, S, R> {
     }
 
     // A value of an enum: in JSON a string, in a literal a name.
-    fn enum_value(&self, at: usize, kind: Kind, index: usize) -> Option<Body<'w>> {
+    fn enum_value(&self, at: usize, kind: Kind, index: usize) -> Option<Body<'w>>
+        ensures { (p : ℕ) (s : Scalar) → S.stands self.now.source.now at (scalar_at p s) → kind ≡ scalar_kind s → PlainTold result (as_enum (map (λ v. v.name.now) (rows_in self.now.schema.now.values.items (inside_at self.now.schema.now.types.items index))) (form_of S.form) s) }
+    {
         let text = self.source.text(at);
-        let written = match S::FORM {
+        let written = match self.source.written() {
             Language::Json => Kind::String,
             Language::Graphql => Kind::Enum,
         };
