@@ -20,3 +20,7 @@ pub mod Usages
 pub mod MembersTwice
 pub mod OperationFaults
 pub mod OperationMaking
+pub mod Apart
+pub mod Rereading
+pub mod Sourcing
+pub mod Making

@@ -6,3 +6,4 @@ pub mod Making
 pub mod Places
 pub mod Repeats
 pub mod OperationMade
+pub mod Made

@@ -1,9 +1,11 @@
 // Why a schema or an operation is refused.
 ghost use Rattle.std.specs.Prelude.{◌≡◌};
 ghost use Rattle.validation.specs.declared.fault.MakeFault.TheVariants.{Text as TextFault};
+ghost use Rattle.text.specs.declared.fault.Fault.TheVariants.{NoMemory};
 ghost use Rattle.validation.specs.Faults.{number_of, layer_of, place_of};
 
 use schema::layer::Layer;
+use std::alloc::AllocError;
 use text::fault::Fault;
 
 // The place is an offset in the text.
@@ -22,6 +24,14 @@ impl From<Fault> for MakeFault {
 
     fn from(fault: Fault) -> MakeFault {
         MakeFault::Text(fault)
+    }
+}
+
+impl From<AllocError> for MakeFault {
+    ghost from_gives = { λ _ f. f ≡ TextFault NoMemory };
+
+    fn from(_error: AllocError) -> MakeFault {
+        MakeFault::Text(Fault::NoMemory)
     }
 }
 

@@ -5,6 +5,7 @@ ghost use Rattle.std.specs.Prelude.{◌≤◌, IfOk, vec_len};
 ghost use Rattle.schema.specs.Documents.{Document};
 ghost use Rattle.schema.specs.Holds.{Holds};
 ghost use Rattle.validation.specs.OperationMade.{MakesOperation};
+ghost use Rattle.validation.specs.Made.{MakesSchema};
 
 pub mod cycle;
 pub mod defaults;
@@ -33,10 +34,13 @@ use text::fault::Fault;
 
 // The schema that the text writes, if it passes each test over the whole text: the names, the types, the defaults.
 pub fn make_schema(heap: Global, text: &[u8]) -> Result<Schema<'_>, MakeFault>
-    ensures { IfOk result (λ s. vec_len s.types ≤ 256) }
+    ensures told { MakesSchema text.now result }
+    ensures few { IfOk result (λ s. vec_len s.types ≤ 256) }
 {
     let schema = document::read_schema(heap, text)?;
-    no_repeated(members::repeated_name(heap, &schema)?)?;
+    if let Some(at) = members::repeated_name(heap, &schema)? {
+        return Err(MakeFault::Text(Fault::RepeatedName(at)));
+    }
     if let Some(at) = types::unknown_type(&schema) {
         return Err(MakeFault::UnknownType(at));
     }
@@ -46,7 +50,7 @@ pub fn make_schema(heap: Global, text: &[u8]) -> Result<Schema<'_>, MakeFault>
     if let Some(at) = defaults::bad_default(&schema) {
         return Err(MakeFault::BadDefault(at));
     }
-    if let Some(at) = cycle::default_cycle(heap, &schema).map_err(Fault::from)? {
+    if let Some(at) = cycle::default_cycle(heap, &schema)? {
         return Err(MakeFault::DefaultCycle(at));
     }
     Ok(schema)
@@ -75,9 +79,4 @@ pub fn make_operation<'a>(
         return Err(MakeFault::BadDefault(at));
     }
     Ok(operation)
-}
-
-// Refuses the name at the place, if there is one.
-fn no_repeated(place: Option<usize>) -> Result<(), Fault> {
-    place.map_or(Ok(()), |place| Err(Fault::RepeatedName(place)))
 }
