@@ -1,12 +1,15 @@
 -- What a walk by turns keeps: how its frames, steps and faults stand for the model's open records, values that come, and refusals.
-use Rattle.std.specs.Prelude.{◌≡◌, ℕ, ◌<◌, List, length, get_or, cond, None, Some, Option, Ok, Err, Result}
+use Rattle.std.specs.Prelude.{◌≡◌, ℕ, ◌<◌, List, map, length, get_or, cond, vec_items, None, Some, Option, Ok, Err, Result}
 use mathlib.Core.Option.{none, some}
 use Rattle.text.specs.declared.language.Language.{Language}
 use Rattle.text.specs.declared.language.Language.TheVariants.{Json, Graphql}
-use Rattle.model.specs.Values.{Name, Form, json, literal, Raw, Raws, Mems, place_of, Ty, mem, Plain, r_plain}
+use Rattle.model.specs.Values.{Name, Form, json, literal, Raw, Raws, Mems, place_of, Ty, mem, Field, Def, int_d, string_d, boolean_d, id_d, enum_d, input_d, output_d, Plain, r_plain}
 use Rattle.model.specs.Refusals.{number_of as cause_number, Refusal, Here}
 use Rattle.source.specs.declared.raw.Span.{Span}
 use Rattle.schema.specs.declared.types.Base.{Base}
+use Rattle.schema.specs.declared.types.Base.TheVariants.{Int, Float, String, Boolean, Id, Custom, Enum, Input, Output, Unknown}
+use Rattle.schema.specs.declared.definition.Schema.{Schema}
+use Rattle.schema.specs.Spans.{rows_in, inside_at}
 use Rattle.schema.specs.declared.types.Shape.{Shape}
 use Rattle.schema.specs.declared.definition.Field.{Field as FieldRow}
 use Rattle.schema.specs.declared.layer.Layer.TheVariants.{Value as ValueLayer}
@@ -113,3 +116,16 @@ PlainTold None none = Unit {0}
 PlainTold None (some x) = ⊥
 PlainTold (Some b) none = ⊥
 PlainTold (Some b) (some x) = Writes b (r_plain x)
+
+-- what a type's name stands for, beside its definition: of the built-in scalars but Float, and of enums by their rows
+abbrev pub Means : Schema → Base → Def → Type 0
+Means s Int d = d ≡ int_d
+Means s Float d = ⊥
+Means s String d = d ≡ string_d
+Means s Boolean d = d ≡ boolean_d
+Means s Id d = d ≡ id_d
+Means s (Custom k) d = ⊥
+Means s (Enum k) d = d ≡ enum_d (map (λ v. v.name.now) (rows_in (vec_items s.values) (inside_at (vec_items s.types) k)))
+Means s (Input k) d = (fs : List Field) × (d ≡ input_d fs)
+Means s Output d = d ≡ output_d
+Means s Unknown d = d ≡ output_d

@@ -2,11 +2,11 @@
 ghost use Rattle.std.specs.Prelude.{◌≡◌, ℕ, ◌+◌, ◌^◌, ◌<◌, ◌≤◌, false, cond, length, map, IfOk, IfSome, OnOk};
 ghost use Rattle.record.specs.Held.{size, Kept};
 ghost use mathlib.Core.Option.{Option as Perhaps};
-ghost use Rattle.model.specs.Values.{Name, Scalar, scalar as scalar_at, Raw, Mems, Form, place_of, object as object_at};
+ghost use Rattle.model.specs.Values.{Name, Def, Scalar, scalar as scalar_at, Raw, Mems, Form, place_of, object as object_at};
 ghost use Rattle.model.specs.Coercion.{member as member_of};
 ghost use Rattle.model.specs.Refusals.{Here};
 ghost use Rattle.record.specs.declared.body.Body.TheVariants.{List as ListBody};
-ghost use Rattle.model.specs.Scalars.{as_enum};
+ghost use Rattle.model.specs.Scalars.{as_enum, scalar_at as plain_at};
 ghost use Rattle.source.specs.Heads.{kind_of, scalar_kind};
 ghost use Rattle.schema.specs.Spans.{rows_in, inside_at};
 ghost use Rattle.schema.specs.Documents.{Document};
@@ -14,7 +14,7 @@ ghost use Rattle.coercion.specs.Frames.{Rooted, Stacked, left};
 ghost use Rattle.coercion.specs.Levels.{opens_kept, follows, Rest as OpenRest};
 ghost use Rattle.coercion.specs.States.{Opened};
 ghost use Rattle.coercion.specs.Openings.{AsksIs, OpensAs, RestIs};
-ghost use Rattle.coercion.specs.Told.{form_of, PlainTold, FieldIs, NextIs, Later, MemberTold};
+ghost use Rattle.coercion.specs.Told.{form_of, Means, PlainTold, FieldIs, NextIs, Later, MemberTold};
 
 use crate::fault::{Spot, ValueFault};
 use crate::frames::{Frame, Frames, Inside, Rest};
@@ -188,7 +188,9 @@ impl<'w, 's, S: Source, R: ScalarRule> Walk<'w, 's, S, R> {
     }
 
     // The body of the record of a value at a built-in scalar or an enum, which may not take it.
-    fn scalar(&self, at: usize, kind: Kind, base: Base) -> Option<Body<'w>> {
+    fn scalar(&self, at: usize, kind: Kind, base: Base) -> Option<Body<'w>>
+        ensures { (d : Def) (p : ℕ) (s : Scalar) → Means self.now.schema.now base d → S.stands self.now.source.now at (scalar_at p s) → kind ≡ scalar_kind s → PlainTold result (plain_at (form_of S.form) d s) }
+    {
         let source = self.source;
         match (base, kind) {
             (Base::Int, Kind::Whole) => {
