@@ -24,3 +24,4 @@ pub mod Apart
 pub mod Rereading
 pub mod Sourcing
 pub mod Making
+pub mod Rightness

@@ -4,7 +4,7 @@ use Rattle.std.proofs.Math.Option.{some}
 use Rattle.model.specs.Values.{Name, Raw, Argument, place_of, has, output_d, TypeDef, find}
 use Rattle.model.specs.Limits.{RawLimits}
 use Rattle.model.specs.Back.{Distinct, Proper}
-use Rattle.model.specs.Checking.{inner}
+use Rattle.model.specs.Checking.{inner, RightDefault}
 use Rattle.model.specs.Cycles.{Among, OnCycle}
 use Rattle.model.specs.CycleLaws.{type_names}
 use Rattle.schema.specs.Documents.{Label, Declared, Definition, a_scalar, an_enum, an_input, an_output, a_directive, Document, VariableDefinition, OperationDocument, field_of, types_in, schema_of}
@@ -137,3 +137,17 @@ NamesApart D = Distinct (type_names (types_in D)) × Proper (schema_of D)
 -- each default is within the limits of a source; no member's name stands twice in one
 abbrev pub Sourced : Document → Type 0
 Sourced D = (d : Declared) → Input D d → (x : Raw) → d.dflt ≡ some x → RawLimits 0 x
+
+-- DEFAULTS (sections 3.6.1 and 5.6.1)
+
+-- at p stands the default of d, and it is not right for the type of d
+abbrev pub WrongDefault : Document → Declared → ℕ → Type 0
+WrongDefault S d p = (x : Raw) × (d.dflt ≡ some x) × (RightDefault (schema_of S) x d.typed.ty → ⊥) × (place_of x ≡ p)
+
+-- at p stands a variable's default that is not right
+pub data BadVariableDefaultAt (S : Document) (D : OperationDocument) (p : ℕ) : Type 0 where
+  bad_variable_default_at : {v : VariableDefinition} → Among v D.variables → WrongDefault S v.declared p → BadVariableDefaultAt S D p
+
+-- each default of a variable is within the limits of a source; no member's name stands twice in one
+abbrev pub VariablesSourced : OperationDocument → Type 0
+VariablesSourced D = (v : VariableDefinition) → Among v D.variables → (x : Raw) → v.declared.dflt ≡ some x → RawLimits 0 x

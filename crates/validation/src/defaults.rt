@@ -1,4 +1,14 @@
 // The test of defaults: each is right for its type, and holds no variable.
+ghost use Rattle.std.specs.Prelude.{◌≡◌, ◌↔◌, true};
+ghost use Rattle.model.specs.Values.{Raw, place_of};
+ghost use Rattle.model.specs.Checking.{RightDefault};
+ghost use Rattle.model.specs.CheckLaws.{NoNameTwice};
+ghost use Rattle.schema.specs.Documents.{Document, OperationDocument, schema_of};
+ghost use Rattle.schema.specs.Holds.{Holds};
+ghost use Rattle.schema.specs.HoldsOperation.{HoldsOperation};
+ghost use Rattle.schema.specs.Rows.{base_in};
+ghost use Rattle.validation.specs.Literals.{type_of};
+ghost use Rattle.validation.specs.Making.{FirstFault, BadVariableDefaultAt, VariablesSourced};
 
 use crate::diagnostic::Diagnostic;
 use crate::diagnostics::Diagnostics;
@@ -12,7 +22,9 @@ use schema::types::Type;
 use source::raw::Source;
 
 // Whether a check that knows no variable finds nothing in the literal at the cursor.
-fn is_right<S: Source>(source: &S, schema: &Schema<'_>, at: usize, ty: Type<'_>) -> bool {
+fn is_right<S: Source>(source: &S, schema: &Schema<'_>, at: usize, ty: Type<'_>) -> bool
+    ensures { (D : Document) (x : Raw) → Holds schema.now D → ty.entry.shape.base ≡ base_in D ty.entry.name.now → S.stands source.now at x → NoNameTwice x → result ≡ true ↔ RightDefault (schema_of D) x (type_of ty.entry) }
+{
     let rows: &[Variable<'_>] = &[];
     let names = Table::new(rows);
     let variables = Variables::new(rows, &names, &schema.tree);
@@ -29,7 +41,9 @@ fn is_right<S: Source>(source: &S, schema: &Schema<'_>, at: usize, ty: Type<'_>)
 }
 
 // The place of the default at the cursor, if it is wrong.
-fn wrong<S: Source>(source: &S, schema: &Schema<'_>, at: usize, ty: Type<'_>) -> Option<usize> {
+fn wrong<S: Source>(source: &S, schema: &Schema<'_>, at: usize, ty: Type<'_>) -> Option<usize>
+    ensures { (D : Document) (x : Raw) → Holds schema.now D → ty.entry.shape.base ≡ base_in D ty.entry.name.now → S.stands source.now at x → NoNameTwice x → FirstFault (λ p. (RightDefault (schema_of D) x (type_of ty.entry) → ⊥) × (place_of x ≡ p)) result }
+{
     (!is_right(source, schema, at, ty)).then(|| source.place(at))
 }
 
@@ -53,7 +67,9 @@ pub fn bad_default(schema: &Schema<'_>) -> Option<usize> {
 }
 
 // The first wrong default of a variable.
-pub fn bad_variable_default(schema: &Schema<'_>, operation: &Operation<'_>) -> Option<usize> {
+pub fn bad_variable_default(schema: &Schema<'_>, operation: &Operation<'_>) -> Option<usize>
+    ensures { (S : Document) (D : OperationDocument) → Holds schema.now S → HoldsOperation (base_in S) operation.now D → VariablesSourced D → FirstFault (BadVariableDefaultAt S D) result }
+{
     let mut first = None;
     for variable in operation.variables.iter() {
         if let Some(at) = variable.default {

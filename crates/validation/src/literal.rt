@@ -51,7 +51,11 @@ impl<'c, 's, 'v, S, L> LiteralCheck<'c, 's, 'v, S, L> {
         source: &'c S,
         schema: &'c Schema<'s>,
         variables: Variables<'c, 'v, L>,
-    ) -> LiteralCheck<'c, 's, 'v, S, L> {
+    ) -> LiteralCheck<'c, 's, 'v, S, L>
+        ensures source { result.source.now ≡ source.now }
+        ensures schema { result.schema.now ≡ schema.now }
+        ensures variables { result.variables ≡ variables.entry }
+    {
         LiteralCheck {
             source,
             schema,

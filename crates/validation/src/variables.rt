@@ -59,7 +59,11 @@ pub(crate) fn item(ty: Type<'_>) -> Type<'_>
 
 impl<'c, 'v, L> Variables<'c, 'v, L> {
     // Variables in a row, found by a lookup of their names, with the tree of their defaults.
-    pub fn new(rows: &'c [Variable<'v>], names: &'c L, tree: &'c Tree<'v>) -> Variables<'c, 'v, L> {
+    pub fn new(rows: &'c [Variable<'v>], names: &'c L, tree: &'c Tree<'v>) -> Variables<'c, 'v, L>
+        ensures rows { result.rows.now ≡ rows.now }
+        ensures names { result.names.now ≡ names.now }
+        ensures tree { result.tree.now ≡ tree.now }
+    {
         Variables { rows, names, tree }
     }
 }
