@@ -25,3 +25,4 @@ pub mod Rereading
 pub mod Sourcing
 pub mod Making
 pub mod Rightness
+pub mod OperationSourcing

@@ -24,7 +24,7 @@ use Rattle.validation.proofs.Rereading.{literal_again}
 
 module _ (N : ℕ → Sight → Type 0) where
   -- the default, if there is one, was read somewhere
-  abbrev DefaultRead : Option Raw → Type 0
+  abbrev pub DefaultRead : Option Raw → Type 0
   DefaultRead none = Unit {0}
   DefaultRead (some x) = (i : ℕ) × (j : ℕ) × ReadsLiteral N i (got j x)
 
@@ -41,11 +41,11 @@ module _ (N : ℕ → Sight → Type 0) where
   among_read (d ∷ ds) first h = h.0
   among_read (d ∷ ds) (later a) h = among_read ds a h.1
 
-  value_is : {X : Type 0} (P : X → Type 0) {i j : ℕ} {x y : X} → ◌≡◌ {A = Out X} (got i x) (got j y) → P x → P y
+  pub value_is : {X : Type 0} (P : X → Type 0) {i j : ℕ} {x y : X} → ◌≡◌ {A = Out X} (got i x) (got j y) → P x → P y
   value_is {X} P {i} {j} {x} {y} e p = let q : x ≡ y = cc in subst P q p
 
   -- what holds of all that A gives holds of what is made of it
-  then_read : {X Y : Type 0} (A : ℕ → Out X → Type 0) (B : X → ℕ → Out Y → Type 0) (Q : Y → Type 0) (i k : ℕ) (y : Y) → Then A B i (got k y) → ((j : ℕ) (x : X) → A i (got j x) → B x j (got k y) → Q y) → Q y
+  pub then_read : {X Y : Type 0} (A : ℕ → Out X → Type 0) (B : X → ℕ → Out Y → Type 0) (Q : Y → Type 0) (i k : ℕ) (y : Y) → Then A B i (got k y) → ((j : ℕ) (x : X) → A i (got j x) → B x j (got k y) → Q y) → Q y
   then_read A B Q i k y (got j x, a, g) f = f j x a g
   then_read A B Q i k y (fails e, a, g) f = not_got g
 
@@ -53,7 +53,7 @@ module _ (N : ℕ → Sight → Type 0) where
   chosen_read P Q true c f g = f c
   chosen_read P Q false c f g = g c
 
-  token_read : {X Y : Type 0} (test : Lexical → Bool) (B : ℕ → ℕ → Out X → Type 0) (C : ℕ → Out X → Type 0) (i k : ℕ) (y : X) → IfToken N test B C i (got k y) → ((s e : ℕ) → B s e (got k y) → Y) → (C i (got k y) → Y) → Y
+  pub token_read : {X Y : Type 0} (test : Lexical → Bool) (B : ℕ → ℕ → Out X → Type 0) (C : ℕ → Out X → Type 0) (i k : ℕ) (y : X) → IfToken N test B C i (got k y) → ((s e : ℕ) → B s e (got k y) → Y) → (C i (got k y) → Y) → Y
   token_read test B C i k y (blind f, n, h) g c = not_got h
   token_read test B C i k y (sees s e x, n, h) g c = chosen_read (B s e (got k y)) (C i (got k y)) (test x) h (g s e) c
 
@@ -62,7 +62,7 @@ module _ (N : ℕ → Sight → Type 0) where
       (λ s e g. then_read (ReadsLiteral N) (λ x. Gives (some x)) DefaultRead e k v g (λ j x r z. value_is DefaultRead z (e, j, r)))
       (λ g. value_is DefaultRead g tt)
 
-  declared_read : (l : Label) (i k : ℕ) (d : Declared) → ReadsDeclared N l i (got k d) → DefaultRead d.dflt
+  pub declared_read : (l : Label) (i k : ℕ) (d : Declared) → ReadsDeclared N l i (got k d) → DefaultRead d.dflt
   declared_read l i k d h =
       then_read (Takes N (the_mark colon)) (λ s. Then (ReadsType N 8) (λ t. Maps (λ v. record { label = l; typed = t; dflt = v }) (ReadsDefault N))) (λ (d : Declared). DefaultRead d.dflt) i k d h (λ j c r g.
       then_read (ReadsType N 8) (λ t. Maps (λ v. record { label = l; typed = t; dflt = v }) (ReadsDefault N)) (λ (d : Declared). DefaultRead d.dflt) j k d g (λ m t r g.
@@ -153,7 +153,7 @@ module _ (text : List ℕ) where
   abbrev T : ℕ → ℕ → ℕ → Lexical → Type 0
   T = TokenIs Graphql text
 
-  within : (i j : ℕ) (x : Raw) → Reads M Graphql true 32 i (got j x) → RawLimits 0 x
+  pub within : (i j : ℕ) (x : Raw) → Reads M Graphql true 32 i (got j x) → RawLimits 0 x
   within i j x r =
       let s = sound M T (λ i s e x n. seen_is n) Graphql true r 1 refl in
       less 0 x (limits_of s.0 1 s.1)
@@ -161,7 +161,7 @@ module _ (text : List ℕ) where
   read_in : {e : ℕ} {D : Document} → ReadsSchema text (got e D) → DocumentRead M (got e D)
   read_in (schema_read h r) = document_read M r
 
-  given : (o : Option Raw) (x : Raw) → o ≡ some x → DefaultRead M o → DefaultRead M (some x)
+  pub given : (o : Option Raw) (x : Raw) → o ≡ some x → DefaultRead M o → DefaultRead M (some x)
   given o x e h = subst (DefaultRead M) e h
 
   pub sourced : {e : ℕ} {D : Document} → ReadsSchema text (got e D) → FirstFault (RepeatedNameAt text D) None → Sourced D

@@ -10,7 +10,7 @@ use Rattle.schema.specs.HoldsOperation.{HoldsOperation}
 use Rattle.schema.specs.Rows.{base_in}
 use Rattle.validation.specs.declared.fault.MakeFault.{MakeFault}
 use Rattle.validation.specs.declared.fault.MakeFault.TheVariants.{Text, UnknownType, NotInput, BadDefault}
-use Rattle.validation.specs.Making.{FirstFault, RepeatedInOperationAt, UnknownVariableAt, NotInputVariableAt}
+use Rattle.validation.specs.Making.{FirstFault, RepeatedInOperationAt, UnknownVariableAt, NotInputVariableAt, BadVariableDefaultAt}
 
 -- the text says D, and D passes the tests before that of defaults
 pub record TypedOperation (S : Document) (text : List ℕ) (D : OperationDocument) : Type 0 where
@@ -27,5 +27,5 @@ pub data MakesOperation (S : Document) (text : List ℕ) : Result Operation Make
   repeated_name : {e p : ℕ} {D : OperationDocument} → ReadsOperation text (got e D) → FirstFault (RepeatedInOperationAt text D) (Some p) → MakesOperation S text (Err (Text (RepeatedName p)))
   unknown_type : {e p : ℕ} {D : OperationDocument} → ReadsOperation text (got e D) → FirstFault (RepeatedInOperationAt text D) None → FirstFault (UnknownVariableAt S D) (Some p) → MakesOperation S text (Err (UnknownType p))
   not_input : {e p : ℕ} {D : OperationDocument} → ReadsOperation text (got e D) → FirstFault (RepeatedInOperationAt text D) None → FirstFault (UnknownVariableAt S D) None → FirstFault (NotInputVariableAt S D) (Some p) → MakesOperation S text (Err (NotInput p))
-  bad_default : {p : ℕ} {D : OperationDocument} → TypedOperation S text D → MakesOperation S text (Err (BadDefault p))
-  made : {o : Operation} {D : OperationDocument} → TypedOperation S text D → HoldsOperation (base_in S) o D → MakesOperation S text (Ok o)
+  bad_default : {p : ℕ} {D : OperationDocument} → TypedOperation S text D → FirstFault (BadVariableDefaultAt S D) (Some p) → MakesOperation S text (Err (BadDefault p))
+  made : {o : Operation} {D : OperationDocument} → TypedOperation S text D → FirstFault (BadVariableDefaultAt S D) None → HoldsOperation (base_in S) o D → MakesOperation S text (Ok o)

@@ -1,11 +1,10 @@
-use Rattle.std.proofs.Common.{◌≡◌, ◌∙◌, false, [], ap, sym, subst, map, List}
+use Rattle.std.proofs.Common.{◌≡◌, ◌∙◌, false, [], ap, sym, subst, map}
 use Rattle.model.specs.Values.{place_of}
 use Rattle.model.specs.Checking.{check}
 use Rattle.model.proofs.ChFree.{silence_holds_no_variable}
 use Rattle.source.specs.Table.{tree_table}
 use Rattle.schema.specs.declared.operation.Variable.{Variable}
 use Rattle.schema.specs.Documents.{schema_of}
-use Rattle.schema.specs.Rows.{base_in}
 use Rattle.validation.specs.Diagnosed.{Noted}
 use Rattle.validation.specs.Literals.{type_of}
 use Rattle.validation.proofs.Rightness.{knows_none, silent, uncounted}
