@@ -144,6 +144,10 @@ Sourced D = (d : Declared) → Input D d → (x : Raw) → d.dflt ≡ some x →
 abbrev pub WrongDefault : Document → Declared → ℕ → Type 0
 WrongDefault S d p = (x : Raw) × (d.dflt ≡ some x) × (RightDefault (schema_of S) x d.typed.ty → ⊥) × (place_of x ≡ p)
 
+-- at p stands the default of an input field or argument that is not right
+pub data BadDefaultAt (D : Document) (p : ℕ) : Type 0 where
+  bad_default_at : {d : Declared} → Input D d → WrongDefault D d p → BadDefaultAt D p
+
 -- at p stands a variable's default that is not right
 pub data BadVariableDefaultAt (S : Document) (D : OperationDocument) (p : ℕ) : Type 0 where
   bad_variable_default_at : {v : VariableDefinition} → Among v D.variables → WrongDefault S v.declared p → BadVariableDefaultAt S D p

@@ -1,14 +1,19 @@
 // The test of defaults: each is right for its type, and holds no variable.
-ghost use Rattle.std.specs.Prelude.{◌≡◌, ◌↔◌, true};
+ghost use Rattle.std.specs.Prelude.{◌≡◌, ◌↔◌, true, List};
+ghost use Rattle.std.proofs.Math.Option.{some};
 ghost use Rattle.model.specs.Values.{Raw, place_of};
+ghost use Rattle.model.specs.Limits.{RawLimits};
 ghost use Rattle.model.specs.Checking.{RightDefault};
 ghost use Rattle.model.specs.CheckLaws.{NoNameTwice};
-ghost use Rattle.schema.specs.Documents.{Document, OperationDocument, schema_of};
-ghost use Rattle.schema.specs.Holds.{Holds};
+ghost use Rattle.model.specs.Cycles.{Among};
+ghost use Rattle.source.specs.Table.{tree_table};
+ghost use Rattle.schema.specs.Documents.{Declared, Document, OperationDocument, schema_of};
+ghost use Rattle.schema.specs.Holds.{Each, FieldHeld, Holds};
 ghost use Rattle.schema.specs.HoldsOperation.{HoldsOperation};
 ghost use Rattle.schema.specs.Rows.{base_in};
 ghost use Rattle.validation.specs.Literals.{type_of};
-ghost use Rattle.validation.specs.Making.{FirstFault, BadVariableDefaultAt, VariablesSourced};
+ghost use Rattle.validation.specs.Making.{FirstFault, WrongDefault, BadDefaultAt, Sourced, BadVariableDefaultAt, VariablesSourced};
+ghost use Rattle.validation.specs.Repeats.{OneOf};
 
 use crate::diagnostic::Diagnostic;
 use crate::diagnostics::Diagnostics;
@@ -16,6 +21,7 @@ use crate::literal::{InputLocation, LiteralCheck};
 use crate::place;
 use crate::variables::Variables;
 use lookup::Table;
+use reader::literal::Literal;
 use schema::definition::{Field, Schema};
 use schema::operation::{Operation, Variable};
 use schema::types::Type;
@@ -48,18 +54,23 @@ fn wrong<S: Source>(source: &S, schema: &Schema<'_>, at: usize, ty: Type<'_>) ->
 }
 
 // The first wrong default of fields or arguments.
-fn bad_among(schema: &Schema<'_>, fields: &[Field<'_>]) -> Option<usize> {
+fn bad_among(schema: &Schema<'_>, fields: &[Field<'_>]) -> Option<usize>
+    ensures { (D : Document) (ds : List Declared) → Holds schema.now D → Each (FieldHeld (base_in D) (tree_table schema.now.tree)) fields.now ds → ((d : Declared) → Among d ds → (x : Raw) → d.dflt ≡ some x → RawLimits 0 x) → FirstFault (OneOf (WrongDefault D) ds) result }
+{
     let mut first = None;
     for field in fields {
         if let Some(at) = field.default {
-            first = place::lesser(first, wrong(&schema.literal(at), schema, at, field.ty));
+            let literal = Literal::new(&schema.tree, at);
+            first = place::lesser(first, wrong(&literal, schema, at, field.ty));
         }
     }
     first
 }
 
 // The first wrong default of a schema.
-pub fn bad_default(schema: &Schema<'_>) -> Option<usize> {
+pub fn bad_default(schema: &Schema<'_>) -> Option<usize>
+    ensures { (D : Document) → Holds schema.now D → Sourced D → FirstFault (BadDefaultAt D) result }
+{
     place::lesser(
         bad_among(schema, &schema.fields),
         bad_among(schema, &schema.arguments),
