@@ -6,7 +6,6 @@ pub mod CycleRows
 pub mod CycleTest
 pub mod CycleTypes
 pub mod CycleValues
-pub mod Defaulting
 pub mod Defined
 pub mod Errors
 pub mod Handing

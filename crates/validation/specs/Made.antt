@@ -9,7 +9,7 @@ use Rattle.schema.specs.SchemaReading.{ReadsSchema}
 use Rattle.schema.specs.Holds.{Holds}
 use Rattle.validation.specs.declared.fault.MakeFault.{MakeFault}
 use Rattle.validation.specs.declared.fault.MakeFault.TheVariants.{Text, UnknownType, NotInput, BadDefault, DefaultCycle}
-use Rattle.validation.specs.Making.{FirstFault, RepeatedNameAt, UnknownAt, NotInputAt, CycleAt}
+use Rattle.validation.specs.Making.{FirstFault, RepeatedNameAt, UnknownAt, NotInputAt, BadDefaultAt, CycleAt}
 
 -- the text says D, and D passes the tests before that of defaults
 pub record TypedSchema (text : List ℕ) (D : Document) : Type 0 where
@@ -26,6 +26,6 @@ pub data MakesSchema (text : List ℕ) : Result Schema MakeFault → Type 0 wher
   repeated_name : {e p : ℕ} {D : Document} → ReadsSchema text (got e D) → FirstFault (RepeatedNameAt text D) (Some p) → MakesSchema text (Err (Text (RepeatedName p)))
   unknown_type : {e p : ℕ} {D : Document} → ReadsSchema text (got e D) → FirstFault (RepeatedNameAt text D) None → FirstFault (UnknownAt D) (Some p) → MakesSchema text (Err (UnknownType p))
   not_input : {e p : ℕ} {D : Document} → ReadsSchema text (got e D) → FirstFault (RepeatedNameAt text D) None → FirstFault (UnknownAt D) None → FirstFault (NotInputAt D) (Some p) → MakesSchema text (Err (NotInput p))
-  bad_default : {p : ℕ} {D : Document} → TypedSchema text D → MakesSchema text (Err (BadDefault p))
-  default_cycle : {p : ℕ} {D : Document} → TypedSchema text D → FirstFault (CycleAt D) (Some p) → MakesSchema text (Err (DefaultCycle p))
-  made : {s : Schema} {D : Document} → TypedSchema text D → FirstFault (CycleAt D) None → Holds s D → MakesSchema text (Ok s)
+  bad_default : {p : ℕ} {D : Document} → TypedSchema text D → FirstFault (BadDefaultAt D) (Some p) → MakesSchema text (Err (BadDefault p))
+  default_cycle : {p : ℕ} {D : Document} → TypedSchema text D → FirstFault (BadDefaultAt D) None → FirstFault (CycleAt D) (Some p) → MakesSchema text (Err (DefaultCycle p))
+  made : {s : Schema} {D : Document} → TypedSchema text D → FirstFault (BadDefaultAt D) None → FirstFault (CycleAt D) None → Holds s D → MakesSchema text (Ok s)

@@ -34,7 +34,7 @@ returns-in-Some-bad_default-clause-told c =
     let w = c.in_ok-schema.ensures.told in
     let names = first_in c.args.text.now _ w.1 _ _ c.in_ok-schema.ensures.text c.in_default.is (c.in_ok-at.ensures.first w.1 w.3) in
     let typed = passed w.2 names (c.in_default-unknown_type.ensures w.1 w.3) (c.in_default-not_input.ensures w.1 w.3) in
-    bad_default typed
+    bad_default typed (c.in-Some-bad_default.ensures w.1 w.3 (sourced c.args.text.now w.2 names))
 
 pub returns-in_err-at-2-clause-told : goal.returns-in_err-at-2-clause-told
 returns-in_err-at-2-clause-told c = wanting c.args.text.now _ _ (handed_on c.from_residual-in_err-at-2.ensures.1) refl
@@ -45,7 +45,7 @@ returns-in-Some-2-clause-told c =
     let names = first_in c.args.text.now _ w.1 _ _ c.in_ok-schema.ensures.text c.in_default.is (c.in_ok-at.ensures.first w.1 w.3) in
     let typed = passed w.2 names (c.in_default-unknown_type.ensures w.1 w.3) (c.in_default-not_input.ensures w.1 w.3) in
     let cycle = c.in_ok-at-2.ensures w.1 w.3 (apart names) (sourced c.args.text.now w.2 names) in
-    default_cycle typed (subst (FirstFault (CycleAt w.1)) c.in-Some-2.is cycle)
+    default_cycle typed (c.in_default-bad_default.ensures w.1 w.3 (sourced c.args.text.now w.2 names)) (subst (FirstFault (CycleAt w.1)) c.in-Some-2.is cycle)
 
 pub returns-clause-told : goal.returns-clause-told
 returns-clause-told c =
@@ -53,4 +53,4 @@ returns-clause-told c =
     let names = first_in c.args.text.now _ w.1 _ _ c.in_ok-schema.ensures.text c.in_default.is (c.in_ok-at.ensures.first w.1 w.3) in
     let typed = passed w.2 names (c.in_default-unknown_type.ensures w.1 w.3) (c.in_default-not_input.ensures w.1 w.3) in
     let cycle = c.in_ok-at-2.ensures w.1 w.3 (apart names) (sourced c.args.text.now w.2 names) in
-    made typed (subst (FirstFault (CycleAt w.1)) c.in_default-2.is cycle) w.3
+    made typed (c.in_default-bad_default.ensures w.1 w.3 (sourced c.args.text.now w.2 names)) (subst (FirstFault (CycleAt w.1)) c.in_default-2.is cycle) w.3
