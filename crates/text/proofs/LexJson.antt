@@ -222,7 +222,7 @@ module _ (text : List ℕ) (i : ℕ) where
       }
 
   module _ (word : List ℕ) (h : i < length text) (w : LiteralName word) (b : get_or text i 0 ≡ get_or word 0 0) where
-    pub literal_here : drop i text ≡ word ++ drop (i + length word) text → i + length word ≤ length text → TokenAt Json text i (i + length word) (v_name word)
+    pub literal_here : drop i text ≡ word ++ drop (i + length word) text → i + length word ≤ length text → TokenAt Json text i (i + length word) (v_name (part text i (i + length word)))
     literal_here e k =
         let o = there text i h in
         let long : (i + length word) - i ≡ length word = omega arith in
@@ -234,7 +234,7 @@ module _ (text : List ℕ) (i : ℕ) where
           only = λ x r q.
               let z = by_literal w b (subst (λ l. JsonToken l x r) o q) in
               (z.1, append_same word (sym e ∙ o ∙ z.0));
-          holds = (refl, sym p);
+          holds = (ap a_name (sym p), refl);
         }
 
     pub no_literal : ((r : List ℕ) → drop i text ≡ word ++ r → ⊥) → NoToken Json text i

@@ -40,13 +40,19 @@ fn structural<'a>(byte: u8) -> Option<Token<'a>>
 }
 
 // The literal name that begins at `start`, if it is `word`.
-fn literal<'a>(text: &[u8], start: usize, word: &'a [u8]) -> Result<Lexeme<'a>, Fault>
+fn literal<'a>(text: &'a [u8], start: usize, word: &[u8]) -> Result<Lexeme<'a>, Fault>
     requires within { start < length text.now }
     requires word { LiteralName word.now }
     requires first { slice_index text.now start ≡ slice_index word.now 0 }
     ensures { FoundHere Json text.now start result }
 {
-    spelled(text, start, word, Token::Name(word))
+    let name = spelled(text, start, word, Token::Name(word))?;
+    let end = name.end;
+    Ok(Lexeme {
+        token: Token::Name(&text[start..end]),
+        start,
+        end,
+    })
 }
 
 // The token that begins at `start`.
