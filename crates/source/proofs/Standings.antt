@@ -63,6 +63,11 @@ none_members T s (mem m x ms) h n =
     let b = forward_mems T _ s.to ms h.stand.2 in
     n (omega (arith, a)) (omega (arith, a, b))
 
+-- the first of the members in a span, and the others
+pub first_member : (T : Table) (s : Span) (ms : Mems) → HeldMems T s ms → s.from < s.to → LeadsMembers (Named T) (Held T) (HeldMems T) ms (Some (s.from, record { from = past_of T.nodes s.from; to = s.to }))
+first_member T s end h l = absurd (omega (arith, h.stand, l))
+first_member T s (mem n x ms) h l = (h.stand.0, record { stands = h.stand.1; within = h.within.1 }, record { stand = h.stand.2; within = h.within.2 })
+
 -- a search among members: at the first, and past it
 module _ (named : ℕ → List ℕ → Type 0) (stands : ℕ → Raw → Type 0) (members : Span → Mems → Type 0) (q : List ℕ) where
   pub found_here : (ms : Mems) (at : ℕ) (rest : Span) → LeadsMembers named stands members ms (Some (at, rest)) → ((n : List ℕ) → named at n → n ≡ q) → Found stands (member ms q) (Some at)
@@ -73,7 +78,7 @@ module _ (named : ℕ → List ℕ → Type 0) (stands : ℕ → Raw → Type 0)
   found_later end at rest h e = absurd h
   found_later (mem n x ms) at rest h e = (ms, h.2, cond-false (same n q) (some x) (member ms q) (⊎_elim (λ s. absurd (e n h.0 (same_true n q s))) (λ s. s) (cases_Bool (same n q))))
 
-  none_found : (ms : Mems) → LeadsMembers named stands members ms None → Found stands (member ms q) None
+  pub none_found : (ms : Mems) → LeadsMembers named stands members ms None → Found stands (member ms q) None
   none_found end h = tt
   none_found (mem n x ms) h = absurd h
 

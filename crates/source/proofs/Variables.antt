@@ -1,7 +1,7 @@
 -- A value holds a variable exactly where one of its nodes is a variable's.
-use Rattle.std.proofs.Common.{◌≡◌, ℕ, suc, ◌+◌, ◌-◌, ◌<◌, ◌≤◌, Bool, true, false, ◌||◌, List, [], ◌∷◌, length, get_or, drop, sym, refl, ap, ◌∙◌, subst, ⊎_elim, arith, length-drop, MatchBool}
+use Rattle.std.proofs.Common.{◌≡◌, ℕ, suc, ◌+◌, ◌-◌, ◌<◌, ◌≤◌, Bool, true, false, ◌||◌, List, [], ◌∷◌, length, get_or, take, drop, min, sym, refl, ap, ◌∙◌, subst, ⊎_elim, arith, length-drop, MatchBool}
 use Rattle.std.specs.List.{list_any, slice_range}
-use Rattle.std.proofs.lemmas.List.{get_or-take, get_or-drop, length-take}
+use Rattle.std.proofs.lemmas.List.{get_or-take, get_or-drop, length-take, take_min}
 use Rattle.std.proofs.lemmas.List.Folds.{list_any_at}
 use Rattle.std.proofs.lemmas.Bool.{cases_lt, false≢true}
 use Rattle.model.specs.Values.{Name, Raw, Raws, Mems, null, scalar, variable, list, object, nil, cons, end, mem}
@@ -117,3 +117,7 @@ any_told T at j t false h e f = λ p n w.
     let m : b.at - at < j - at = omega (arith, b.from, b.before) in
     let s : is_variable (get_or (slice_range T.nodes at j) (b.at - at) blank) ≡ true = rw (range_at T.nodes at j (b.at - at) m, q) (kind_variable _ b.kind) in
     false≢true (f ∙ list_any_at is_variable (slice_range T.nodes at j) (b.at - at) blank (omega arith) s)
+
+-- a node and those below it, as far as the table goes
+pub below_cut : (nodes : List Node) (at size past : ℕ) → past - at ≡ min size (length nodes - at) → slice_range nodes at past ≡ take size (drop at nodes)
+below_cut nodes at size past e = ap (λ n. take n (drop at nodes)) (e ∙ ap (min size) (sym (length-drop at nodes))) ∙ take_min size (drop at nodes)

@@ -52,6 +52,18 @@ text_in (Variable p) = Some p
 text_in List = None
 text_in Object = None
 
+-- the content whose bytes stand in another part, if it writes any
+abbrev pub text_put : Content → Part → Content
+text_put Null q = Null
+text_put (Boolean b) q = Boolean b
+text_put (Whole p) q = Whole q
+text_put (Decimal s p) q = Decimal s q
+text_put (String p) q = String q
+text_put (Enum p) q = Enum q
+text_put (Variable p) q = Variable q
+text_put List q = List
+text_put Object q = Object
+
 -- of a decimal, its sign and exponent
 abbrev pub negative_in : Content → Bool
 negative_in Null = false

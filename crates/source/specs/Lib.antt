@@ -6,3 +6,4 @@ pub mod Nodes
 pub mod Table
 pub mod OneTree
 pub mod Variables
+pub mod Places

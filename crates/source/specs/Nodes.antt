@@ -4,6 +4,7 @@ use Rattle.names.specs.declared.part.Part.{Part}
 use Rattle.source.specs.declared.nodes.Content.{Content}
 use Rattle.source.specs.declared.nodes.Content.TheVariants.{Null}
 use Rattle.source.specs.declared.nodes.Node.{Node}
+use Rattle.source.specs.Contents.{text_put}
 
 -- what stands for a node that is not there
 abbrev pub blank : Node
@@ -23,6 +24,14 @@ sized n k = record { content = n.content; place = n.place; size = k; name = n.na
 -- all nodes after the one at `at` are below it
 abbrev pub closed : List Node → ℕ → List Node
 closed nodes at = cond (nat_lt at (length nodes)) (slice_set nodes at (sized (node_at nodes at) (length nodes - at))) nodes
+
+-- a node whose bytes stand in the part, if it writes any
+abbrev pub texted : Node → Part → Node
+texted n p = record { content = text_put n.content p; place = n.place; size = n.size; name = n.name }
+
+-- the node at `at` has its bytes in the part
+abbrev pub text_set : List Node → ℕ → Part → List Node
+text_set nodes at p = cond (nat_lt at (length nodes)) (slice_set nodes at (texted (node_at nodes at) p)) nodes
 
 -- a node was added at the end, or there was no memory
 abbrev pub AddTold : {E : Type 0} → List Node → List Node → Node → Result Unit E → Type 0

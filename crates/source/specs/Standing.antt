@@ -1,5 +1,5 @@
 -- What is asked of a source: one finite tree at a cursor, and where its items and members stand.
-use Rattle.std.specs.Prelude.{◌≡◌, ℕ, ◌-◌, ◌<◌, List, Some, None, Option}
+use Rattle.std.specs.Prelude.{◌≡◌, ℕ, ◌-◌, ◌<◌, Bool, true, false, List, Some, None, Option}
 use mathlib.Core.Option.{none, some}
 use Rattle.model.specs.Values.{Raw, Raws, Mems, nil, cons, end, mem}
 use Rattle.model.specs.Limits.{RawLimits}
@@ -41,6 +41,11 @@ Found stands none None = Unit {0}
 Found stands none (Some c) = ⊥
 Found stands (some x) None = ⊥
 Found stands (some x) (Some c) = stands c x
+
+-- whether there is a value
+abbrev pub is_there : mathlib.Core.Option.Option Raw → Bool
+is_there none = false
+is_there (some x) = true
 
 -- sign and exponent of a decimal
 pub record Scaled (t : Raw) (s : Scale) : Type 0 where

@@ -4,5 +4,8 @@
 pub mod limits;
 pub mod nodes;
 pub mod raw;
+#[cfg(test)]
+mod tests;
+mod tokens;
 pub mod tree;
 pub mod value;

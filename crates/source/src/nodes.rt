@@ -1,10 +1,12 @@
 // A table of nodes in preorder, and the bytes that no text holds as they are.
 ghost use Rattle.std.specs.Prelude.{◌≡◌, []};
-ghost use Rattle.source.specs.Contents.{kind_in, text_in};
-ghost use Rattle.source.specs.Nodes.{node_at, headed, closed, AddTold};
+ghost use Rattle.names.specs.Parts.{PartFits, bytes_of};
+ghost use Rattle.source.specs.Contents.{kind_in, text_in, text_put};
+ghost use Rattle.source.specs.Nodes.{node_at, headed, closed, texted, text_set, AddTold};
 
 use crate::raw::Kind;
 use names::names::Names;
+use names::part::Holder;
 pub use names::part::Part;
 use std::alloc::{AllocError, Global};
 use text::decimal::Scale;
@@ -55,6 +57,23 @@ impl Content {
             Content::Null | Content::Boolean(_) | Content::List | Content::Object => None,
         }
     }
+
+    // The same content, its bytes in another part.
+    fn with_text(self, text: Part) -> Content
+        ensures { result ≡ text_put self text }
+    {
+        match self {
+            Content::Whole(_) => Content::Whole(text),
+            Content::Decimal { scale, .. } => Content::Decimal {
+                scale,
+                digits: text,
+            },
+            Content::String(_) => Content::String(text),
+            Content::Enum(_) => Content::Enum(text),
+            Content::Variable(_) => Content::Variable(text),
+            Content::Null | Content::Boolean(_) | Content::List | Content::Object => self,
+        }
+    }
 }
 
 // A value; those inside it follow it in the table.
@@ -95,6 +114,16 @@ impl Node {
             place,
             size: 1,
             name,
+        }
+    }
+
+    // The same node, the bytes that it writes, if any, in another part.
+    pub fn with_text(self, text: Part) -> Node
+        ensures { result ≡ texted self text }
+    {
+        Node {
+            content: self.content.with_text(text),
+            ..self
         }
     }
 }
@@ -139,5 +168,27 @@ impl Nodes {
         ensures { result ≡ node_at self.now.list.items at }
     {
         self.list.get(at).copied().unwrap_or(Node::NOTHING)
+    }
+
+    // Gives the node at `at` its text, if it writes any.
+    pub fn set_text(&mut self, at: usize, text: Part)
+        ensures list { self.new.list.items ≡ text_set self.old.list.items at text }
+        ensures pool { self.new.pool ≡ self.old.pool }
+        ensures names { self.new.names ≡ self.old.names }
+    {
+        if let Some(node) = self.list.get_mut(at) {
+            *node = node.with_text(text);
+        }
+    }
+
+    // The bytes of a part; none where it does not stand.
+    pub fn bytes<'s>(&'s self, text: &'s [u8], part: Part) -> &'s [u8]
+        ensures stands { PartFits text.entry.now self.entry.now.pool.items part → result.now ≡ bytes_of text.entry.now self.entry.now.pool.items part }
+        ensures none { (PartFits text.entry.now self.entry.now.pool.items part → ⊥) → result.now ≡ [] }
+    {
+        part.bytes(Holder {
+            text,
+            pool: &self.pool,
+        })
     }
 }

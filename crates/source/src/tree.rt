@@ -1,9 +1,11 @@
 // A tree of raw values over the text that it was read from.
-ghost use Rattle.std.specs.Prelude.{◌≡◌, MatchBool};
+ghost use Rattle.std.specs.Prelude.{◌≡◌, MatchBool, take, drop};
 ghost use Rattle.model.specs.Values.{Raw};
 ghost use Rattle.model.specs.Checking.{VariableFree};
 ghost use Rattle.std.specs.List.{list_any};
 ghost use Rattle.source.specs.Table.{tree_table, Stands};
+ghost use Rattle.source.specs.Nodes.{node_at};
+ghost use Rattle.source.specs.Places.{lesser};
 ghost use Rattle.source.specs.Variables.{HoldsVariable, is_variable};
 
 use crate::nodes::{Content, Node, Nodes};
@@ -29,15 +31,13 @@ fn any_variable(nodes: &[Node]) -> bool
 impl<'a> Tree<'a> {
     // Whether the value is a variable or holds one.
     pub fn holds_variable(&self, at: usize) -> bool
-        ensures { (t : Raw) → Stands (tree_table self.now) at t → MatchBool result (HoldsVariable t) (VariableFree t) }
+        ensures tree { (t : Raw) → Stands (tree_table self.now) at t → MatchBool result (HoldsVariable t) (VariableFree t) }
+        ensures nodes { result ≡ list_any is_variable (take (node_at self.now.nodes.list.items at).size (drop at self.now.nodes.list.items)) }
     {
         let size = self.nodes.get(at).size;
-        any_variable(
-            self.nodes
-                .list
-                .get(at..at.saturating_add(size))
-                .unwrap_or_default(),
-        )
+        // Past the table there is no variable.
+        let past = at.saturating_add(size).min(self.nodes.list.len());
+        any_variable(self.nodes.list.get(at..past).unwrap_or_default())
     }
 
     // The place of the object's first member whose name an earlier member has.
@@ -54,5 +54,15 @@ impl<'a> Tree<'a> {
             .filter(|at| matches!(self.nodes.get(*at).content, Content::Object))
             .filter_map(|object| self.repeated_in(object))
             .min()
+    }
+}
+
+// The lesser of two places that may be there.
+pub fn sooner(a: Option<usize>, b: Option<usize>) -> Option<usize>
+    ensures { result ≡ lesser a b }
+{
+    match (a, b) {
+        (Some(x), Some(y)) => Some(x.min(y)),
+        (x, y) => x.or(y),
     }
 }

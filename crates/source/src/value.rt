@@ -1,8 +1,12 @@
 // The values of trees, as sources.
-ghost use Rattle.std.specs.Prelude.{◌≡◌};
+ghost use Rattle.std.specs.Prelude.{◌≡◌, ℕ, List as Bytes};
 ghost use Rattle.text.specs.declared.language.Language.{Language};
 ghost use Rattle.text.specs.declared.language.Language.TheVariants.{Json as JsonLanguage, Graphql as GraphqlLanguage};
+ghost use Rattle.model.specs.Values.{Raw, place_of};
 ghost use Rattle.names.specs.Parts.{MayFit, bytes_if_any};
+ghost use Rattle.source.specs.Contents.{kind_in, flag_in, negative_in, exponent_in};
+ghost use Rattle.source.specs.Heads.{kind_of, flag_of};
+ghost use Rattle.source.specs.Standing.{Scaled};
 ghost use Rattle.source.specs.Nodes.{node_at};
 ghost use Rattle.source.specs.Table.{past_of, tree_table, Held, HeldAll, HeldMems, Named};
 ghost use Rattle.source.specs.OneTree.{lawful};
@@ -114,15 +118,24 @@ impl<W: Written> Source for Value<'_, '_, W> {
         self.root
     }
 
-    fn kind(&self, at: usize) -> Kind {
+    fn kind(&self, at: usize) -> Kind
+        ensures node { result ≡ kind_in (node_at self.now.tree.now.nodes.list.items at).content }
+        ensures tree { (t : Raw) → Held (tree_table self.now.tree.now) at t → result ≡ kind_of t }
+    {
         self.node(at).content.kind()
     }
 
-    fn place(&self, at: usize) -> usize {
+    fn place(&self, at: usize) -> usize
+        ensures node { result ≡ (node_at self.now.tree.now.nodes.list.items at).place }
+        ensures tree { (t : Raw) → Held (tree_table self.now.tree.now) at t → result ≡ place_of t }
+    {
         self.node(at).place
     }
 
-    fn boolean(&self, at: usize) -> bool {
+    fn boolean(&self, at: usize) -> bool
+        ensures node { result ≡ flag_in (node_at self.now.tree.now.nodes.list.items at).content }
+        ensures tree { (t : Raw) → Held (tree_table self.now.tree.now) at t → result ≡ flag_of t }
+    {
         matches!(self.node(at).content, Content::Boolean(true))
     }
 
@@ -130,7 +143,11 @@ impl<W: Written> Source for Value<'_, '_, W> {
         self.bytes(self.node(at).content.text())
     }
 
-    fn scale(&self, at: usize) -> Scale {
+    fn scale(&self, at: usize) -> Scale
+        ensures negative { result.negative ≡ negative_in (node_at self.now.tree.now.nodes.list.items at).content }
+        ensures exponent { result.exponent ≡ exponent_in (node_at self.now.tree.now.nodes.list.items at).content }
+        ensures tree { (t : Raw) → Held (tree_table self.now.tree.now) at t → Scaled t result }
+    {
         match self.node(at).content {
             Content::Decimal { scale, .. } => scale,
             _ => Scale::ZERO,
@@ -164,7 +181,10 @@ impl<W: Written> Source for Value<'_, '_, W> {
         ))
     }
 
-    fn name(&self, at: usize) -> &[u8] {
+    fn name(&self, at: usize) -> &[u8]
+        ensures part { MayFit self.now.tree.now.text.now self.now.tree.now.nodes.pool.items (node_at self.now.tree.now.nodes.list.items at).name → result.now ≡ bytes_if_any self.now.tree.now.text.now self.now.tree.now.nodes.pool.items (node_at self.now.tree.now.nodes.list.items at).name }
+        ensures named { (n : Bytes ℕ) → Named (tree_table self.now.tree.now) at n → result.now ≡ n }
+    {
         self.bytes(self.node(at).name)
     }
 }
