@@ -98,6 +98,12 @@ NextIs stands items_in members_in rows D f (Err e) (next c y) = ⊥
 NextIs stands items_in members_in rows D f (Err e) (missing n) = Unit {0}
 NextIs stands items_in members_in rows D f (Err e) too_far = Unit {0}
 
+-- an answer, and beside it the frame in which the rest is left
+abbrev pub beside : Frame → Result (Option Step) ValueFault → Result (Option (Step × Frame)) ValueFault
+beside f (Ok None) = Ok None
+beside f (Ok (Some s)) = Ok (Some (s, f))
+beside f (Err e) = Err e
+
 -- members that are left of an object's
 pub data Later : Mems → Mems → Type 0 where
   all : {ms : Mems} → Later ms ms

@@ -1,5 +1,5 @@
 // The walk of a raw value at its type.
-ghost use Rattle.std.specs.Prelude.{◌≡◌, ℕ, ◌+◌, ◌^◌, ◌<◌, ◌≤◌, false, cond, length, map, IfOk, IfSome, OnOk};
+ghost use Rattle.std.specs.Prelude.{◌≡◌, ℕ, ◌+◌, ◌^◌, ◌<◌, ◌≤◌, true, false, cond, length, map, IfOk, IfSome, OnOk};
 ghost use Rattle.record.specs.Held.{size, Kept};
 ghost use mathlib.Core.Option.{Option as Perhaps};
 ghost use Rattle.model.specs.Values.{Name, Def, Scalar, scalar as scalar_at, Raw, Mems, Form, place_of, object as object_at};
@@ -14,7 +14,7 @@ ghost use Rattle.coercion.specs.Frames.{Rooted, Stacked, left};
 ghost use Rattle.coercion.specs.Levels.{opens_kept, follows, Rest as OpenRest};
 ghost use Rattle.coercion.specs.States.{Opened};
 ghost use Rattle.coercion.specs.Openings.{AsksIs, OpensAs, RestIs};
-ghost use Rattle.coercion.specs.Told.{form_of, Means, PlainTold, FieldIs, NextIs, Later, MemberTold};
+ghost use Rattle.coercion.specs.Told.{form_of, Means, PlainTold, FieldIs, NextIs, beside, Later, MemberTold};
 
 use crate::fault::{Spot, ValueFault};
 use crate::frames::{Frame, Frames, Inside, Rest};
@@ -95,30 +95,19 @@ struct Step<'s> {
 }
 
 impl Frame {
-    // The record where that is still to come.
-    fn with(self, rest: Option<Rest>) -> Frame
-        ensures { result ≡ record self { inside = record self.inside { rest = rest } } }
+    // The value at the cursor in the record, where that is still to come after it.
+    fn value<'n>(&mut self, name: Option<&'n [u8]>, at: usize, rest: Option<Rest>) -> Step<'n>
+        ensures step { result ≡ record { name = name.entry; at = at; shape = self.old.inside.shape; field = self.old.field; in_default = self.old.in_default } }
+        ensures frame { self.new ≡ record self.old { inside = record self.old.inside { rest = rest } } }
     {
-        let inside = Inside {
-            rest,
-            ..self.inside
-        };
-        Frame { inside, ..self }
-    }
-
-    // The value at the cursor in the record, and the record where that is still to come.
-    fn value<'n>(self, name: Option<&'n [u8]>, at: usize, rest: Option<Rest>) -> (Step<'n>, Frame)
-        ensures step { result.0 ≡ record { name = name.entry; at = at; shape = self.inside.shape; field = self.field; in_default = self.in_default } }
-        ensures frame { result.1 ≡ record self { inside = record self.inside { rest = rest } } }
-    {
-        let step = Step {
+        self.inside.rest = rest;
+        Step {
             name,
             at,
             shape: self.inside.shape,
             field: self.field,
             in_default: self.in_default,
-        };
-        (step, self.with(rest))
+        }
     }
 }
 
@@ -313,26 +302,35 @@ impl<'w, 's, S: Source, R: ScalarRule> Walk<'w, 's, S, R> {
     }
 
     // Asks the rule about a record that is written, if it is the value of a custom scalar.
-    fn settle(&self, scalar: Option<usize>, bytes: &[u8], spot: Spot) -> Result<(), ValueFault> {
+    fn settle(
+        &self,
+        scalar: Option<usize>,
+        bytes: &[u8],
+        at: usize,
+        field: Option<usize>,
+    ) -> Result<(), ValueFault> {
         match scalar {
             Some(index) if !self.rule.accepts(self.schema.type_name(index), bytes) => {
-                Err(ValueFault::ScalarRefused(spot))
+                Err(ValueFault::ScalarRefused(self.spot(at, field)))
             }
             _ => Ok(()),
         }
     }
 
-    // Opens the record of a value, with its name before it if it has one.
+    // Opens the record of a value, with its name before it if it has one. Where something is still to come in it, it is
+    // left in `opened`. The frames are the open records around it but the innermost, for which there is to be room too.
     fn begin(
         &self,
         step: Step<'_>,
         out: &mut Working<'_>,
-        frames: &mut Frames,
-    ) -> Result<(), ValueFault>
+        frames: &Frames,
+        opened: &mut Frame,
+    ) -> Result<bool, ValueFault>
+        requires inside { out.old.used ≤ size out.old }
         requires short { size out.old < 2 ^ 32 }
-        requires stacked { Stacked out.old.used frames.old.items }
         ensures kept { Kept out.old out.new }
-        ensures opened { OnOk result ((out.old.used + 6 ≤ out.new.used) × (length frames.new.items ≤ length frames.old.items + 1) × Stacked out.new.used frames.new.items) }
+        ensures written { OnOk result ((out.old.used + 6 ≤ out.new.used) × (length frames.now.items < 31)) }
+        ensures opened { IfOk result (λ more. more ≡ true → opened.new.start + 6 ≤ out.new.used) }
     {
         let Step {
             name,
@@ -342,24 +340,24 @@ impl<'w, 's, S: Source, R: ScalarRule> Walk<'w, 's, S, R> {
             ..
         } = step;
         let Opening { body, inside } = self.opening(step)?;
-        if frames.is_full() {
+        if frames.remaining_capacity() < 2 {
             return Err(ValueFault::TooDeep(self.spot(at, field)));
         }
         let start = out
             .begin(name, body)
             .ok_or_else(|| ValueFault::NoSpace(self.spot(at, field)))?;
         if inside.rest.is_none() {
-            let spot = self.spot(at, field);
-            return self.settle(inside.scalar, &out.written()[start..], spot);
+            self.settle(inside.scalar, &out.written()[start..], at, field)?;
+            return Ok(false);
         }
-        frames.push(Frame {
+        *opened = Frame {
             inside,
             start,
             at,
             field,
             in_default,
-        });
-        Ok(())
+        };
+        Ok(true)
     }
 
     // The member with the name of an object, and the members after it that are not looked at yet.
@@ -375,7 +373,7 @@ impl<'w, 's, S: Source, R: ScalarRule> Walk<'w, 's, S, R> {
     // The value of a field, if it has one: the member or the default.
     fn field(
         &self,
-        frame: Frame,
+        frame: &Frame,
         members: Span,
         index: usize,
     ) -> Result<Option<(Step<'w>, Span)>, ValueFault> {
@@ -404,14 +402,14 @@ impl<'w, 's, S: Source, R: ScalarRule> Walk<'w, 's, S, R> {
         Ok(Some((step, members)))
     }
 
-    // The first of the fields that has a value, and the record without what comes before it.
+    // The first of the fields that has a value; what comes after it is left in the record.
     fn next_field(
         &self,
-        frame: Frame,
+        frame: &mut Frame,
         members: Span,
         fields: Span,
-    ) -> Result<Option<(Step<'w>, Frame)>, ValueFault>
-        ensures { IfOk result (λ o. IfSome o (λ p. p.1.start ≡ frame.start)) }
+    ) -> Result<Option<Step<'w>>, ValueFault>
+        ensures { frame.new.start ≡ frame.old.start }
     {
         for index in fields.from..fields.to {
             if let Some((step, members)) = self.field(frame, members, index)? {
@@ -419,17 +417,17 @@ impl<'w, 's, S: Source, R: ScalarRule> Walk<'w, 's, S, R> {
                     from: index + 1,
                     to: fields.to,
                 };
-                let frame = frame.with(Some(Rest::Fields { members, fields }));
-                return Ok(Some((step, frame)));
+                frame.inside.rest = Some(Rest::Fields { members, fields });
+                return Ok(Some(step));
             }
         }
         Ok(None)
     }
 
-    // The first of the values that are still to come in a record, and the record without it.
-    fn next(&self, frame: Frame) -> Result<Option<(Step<'w>, Frame)>, ValueFault>
-        ensures told { (D : Document) (k : ℕ) (p : Form) (h : Here) (x : OpenRest) → RestIs (S.stands self.now.source.now) (S.items self.now.source.now) (S.members self.now.source.now) D frame.inside.rest frame.inside.shape x → FieldIs self.now.schema.now.fields.items frame.field h.field → frame.in_default ≡ h.in_default → NextIs (S.stands self.now.source.now) (S.items self.now.source.now) (S.members self.now.source.now) self.now.schema.now.fields.items D frame result (follows k p h x) }
-        ensures same { IfOk result (λ o. IfSome o (λ p. p.1.start ≡ frame.start)) }
+    // The first of the values that are still to come in a record, which is left without it.
+    fn next(&self, frame: &mut Frame) -> Result<Option<Step<'w>>, ValueFault>
+        ensures told { (D : Document) (k : ℕ) (p : Form) (h : Here) (x : OpenRest) → RestIs (S.stands self.now.source.now) (S.items self.now.source.now) (S.members self.now.source.now) D frame.old.inside.rest frame.old.inside.shape x → FieldIs self.now.schema.now.fields.items frame.old.field h.field → frame.old.in_default ≡ h.in_default → NextIs (S.stands self.now.source.now) (S.items self.now.source.now) (S.members self.now.source.now) self.now.schema.now.fields.items D frame.old (beside frame.new result) (follows k p h x) }
+        ensures same { frame.new.start ≡ frame.old.start }
     {
         let source = self.source;
         match frame.inside.rest {
@@ -452,36 +450,99 @@ impl<'w, 's, S: Source, R: ScalarRule> Walk<'w, 's, S, R> {
         }
     }
 
-    // Goes on in a record that was the innermost open one: closes it, or opens the next one in it.
-    fn turn(
+    // Closes the innermost open record, which is not among the frames, and tells whether one around it is left in its place.
+    fn close(
         &self,
-        frame: Frame,
+        frame: &mut Frame,
         out: &mut Working<'_>,
         frames: &mut Frames,
-    ) -> Result<(), ValueFault>
+    ) -> Result<bool, ValueFault>
+        requires inside { out.old.used ≤ size out.old }
+        requires short { size out.old < 2 ^ 32 }
+        requires within { frame.old.start + 6 ≤ out.old.used }
+        requires stacked { Stacked out.old.used frames.old.items }
+        ensures kept { Kept out.old out.new }
+        ensures falls { IfOk result (λ more. length frames.new.items + cond more 1 0 ≤ length frames.old.items) }
+        ensures within { IfOk result (λ more. more ≡ true → frame.new.start + 6 ≤ out.new.used) }
+        ensures stacked { OnOk result (Stacked out.new.used frames.new.items) }
+        ensures used { out.new.used ≡ out.old.used }
+    {
+        out.finish(frame.start);
+        self.settle(
+            frame.inside.scalar,
+            &out.written()[frame.start..],
+            frame.at,
+            frame.field,
+        )?;
+        let Some(outer) = frames.as_slice().last() else {
+            return Ok(false);
+        };
+        *frame = *outer;
+        frames.truncate(frames.len() - 1);
+        Ok(true)
+    }
+
+    // Goes on in the innermost open record, which is not among the frames: closes it, or opens the next one in it, with
+    // `inner` to put it in. Whether one is open then, which is left in its place.
+    fn turn(
+        &self,
+        frame: &mut Frame,
+        inner: &mut Frame,
+        out: &mut Working<'_>,
+        frames: &mut Frames,
+    ) -> Result<bool, ValueFault>
+        requires inside { out.old.used ≤ size out.old }
         requires short { size out.old < 2 ^ 32 }
         requires room { length frames.old.items < 32 }
-        requires within { frame.start + 6 ≤ out.old.used }
+        requires within { frame.old.start + 6 ≤ out.old.used }
         requires rooted { Rooted out.old.used frames.old.items }
         ensures kept { Kept out.old out.new }
-        ensures falls { OnOk result (left out.new frames.new.items ≤ left out.old frames.old.items) }
+        ensures falls { IfOk result (λ more. left out.new frames.new.items + cond more 1 0 ≤ left out.old frames.old.items) }
+        ensures room { IfOk result (λ more. more ≡ true → length frames.new.items < 32) }
+        ensures within { IfOk result (λ more. more ≡ true → frame.new.start + 6 ≤ out.new.used) }
         ensures stacked { OnOk result (Stacked out.new.used frames.new.items) }
     {
-        match self.next(frame)? {
-            None => {
-                out.finish(frame.start);
-                let spot = self.spot(frame.at, frame.field);
-                self.settle(frame.inside.scalar, &out.written()[frame.start..], spot)
-            }
-            Some((step, frame)) => {
-                frames.push(frame);
-                if step.in_default {
-                    self.of_defaults().begin(step, out, frames)
-                } else {
-                    self.begin(step, out, frames)
-                }
+        let Some(step) = self.next(frame)? else {
+            return self.close(frame, out, frames);
+        };
+        let opened = if step.in_default {
+            self.of_defaults().begin(step, out, frames, inner)?
+        } else {
+            self.begin(step, out, frames, inner)?
+        };
+        if opened {
+            frames.push(*frame);
+            *frame = *inner;
+        }
+        Ok(true)
+    }
+
+    // The same again and again, until no record is open, or one of another source is.
+    fn run(
+        &self,
+        frame: &mut Frame,
+        out: &mut Working<'_>,
+        frames: &mut Frames,
+    ) -> Result<bool, ValueFault>
+        requires inside { out.old.used ≤ size out.old }
+        requires short { size out.old < 2 ^ 32 }
+        requires room { length frames.old.items < 32 }
+        requires within { frame.old.start + 6 ≤ out.old.used }
+        requires rooted { Rooted out.old.used frames.old.items }
+        ensures kept { Kept out.old out.new }
+        ensures falls { IfOk result (λ more. left out.new frames.new.items + cond more 1 0 ≤ left out.old frames.old.items) }
+        ensures room { IfOk result (λ more. more ≡ true → length frames.new.items < 32) }
+        ensures within { IfOk result (λ more. more ≡ true → frame.new.start + 6 ≤ out.new.used) }
+        ensures stacked { OnOk result (Stacked out.new.used frames.new.items) }
+    {
+        let in_default = frame.in_default;
+        let mut inner = Frame::default();
+        while self.turn(frame, &mut inner, out, frames)? {
+            if frame.in_default != in_default {
+                return Ok(true);
             }
         }
+        Ok(false)
     }
 
     // The working bytes and the open frames stand side by side: of a struct that holds a guard, its maker is not told
@@ -495,7 +556,8 @@ impl<'w, 's, S: Source, R: ScalarRule> Walk<'w, 's, S, R> {
         out: &mut Working<'_>,
         frames: &mut Frames,
     ) -> Result<(), ValueFault>
-        requires { size out.old < 2 ^ 32 }
+        requires inside { out.old.used ≤ size out.old }
+        requires short { size out.old < 2 ^ 32 }
         ensures { Kept out.old out.new }
     {
         frames.clear();
@@ -506,14 +568,15 @@ impl<'w, 's, S: Source, R: ScalarRule> Walk<'w, 's, S, R> {
             field: None,
             in_default: false,
         };
-        self.begin(step, out, frames)?;
         let defaults = self.of_defaults();
-        while let Some(frame) = frames.pop() {
-            if frame.in_default {
-                defaults.turn(frame, out, frames)?;
+        let mut frame = Frame::default();
+        let mut open = self.begin(step, out, frames, &mut frame)?;
+        while open {
+            open = if frame.in_default {
+                defaults.run(&mut frame, out, frames)?
             } else {
-                self.turn(frame, out, frames)?;
-            }
+                self.run(&mut frame, out, frames)?
+            };
         }
         Ok(())
     }

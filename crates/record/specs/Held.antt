@@ -13,11 +13,12 @@ written w = take w.used w.bytes.now
 abbrev pub size : Working → ℕ
 size w = length w.bytes.now
 
--- the same bytes, as many as before, of which no fewer are written
+-- the same bytes, as many as before, of which no fewer are written, and no more than there are
 pub record Kept (v w : Working) : Type 0 where
   pub same : w.bytes.ghost_name ≡ v.bytes.ghost_name
   pub long : size w ≡ size v
   pub grown : v.used ≤ w.used
+  pub inside : w.used ≤ size w
 
 -- the bytes xs were written after what was written
 pub record Wrote (v w : Working) (xs : List ℕ) : Type 0 where

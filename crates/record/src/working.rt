@@ -12,7 +12,6 @@ use text::decimal::Scale;
 pub struct Working<'a> {
     pub bytes: &'a mut [u8],
     pub used: usize,
-    ghost inside: { used ≤ length bytes.now },
 }
 
 impl Drop for Working<'_> {
@@ -44,11 +43,11 @@ impl<'a> Working<'a> {
         Working { bytes, used: 0 }
     }
 
-    // The bytes that are written.
+    // The bytes that are written. Whoever sets `used` past the bytes' end has written them all.
     pub fn written(&self) -> &[u8]
         ensures { result.now ≡ written self.now }
     {
-        &self.bytes[..self.used]
+        &self.bytes[..self.used.min(self.bytes.len())]
     }
 
     // Writes `more` after what is written.
@@ -110,10 +109,11 @@ impl<'a> Working<'a> {
         }
     }
 
-    // The bound is asked here and not in the type, which would ask it of all who make working bytes.
+    // The bounds are asked here and not in the type, which would ask them of all who make working bytes.
     // Opens a record, with the name before it if there is one, and tells where it starts; where there is no room for all of it, nothing is written.
     pub fn begin(&mut self, name: Option<&[u8]>, body: Body<'_>) -> Option<usize>
-        requires { size self.old < 2 ^ 32 }
+        requires inside { self.old.used ≤ size self.old }
+        requires short { size self.old < 2 ^ 32 }
         ensures opened { MatchOption result (NoRoom self.old self.new name.entry body.entry) (λ start. Begun self.old self.new name.entry body.entry start) }
         ensures kept { Kept self.old self.new }
     {
@@ -131,6 +131,7 @@ impl<'a> Working<'a> {
 
     // Writes the size of the body into the header at `start` of the record that reaches to the end.
     pub fn finish(&mut self, start: usize)
+        requires inside { self.old.used ≤ size self.old }
         requires within { start + 6 ≤ self.old.used }
         requires short { size self.old < 2 ^ 32 }
         ensures items { written self.new ≡ patched start (written self.old) }

@@ -82,7 +82,8 @@ impl<'s, S: Source, R: ScalarRule> Request<'_, 's, '_, S, R> {
         out: &mut Working<'_>,
         frames: &mut Frames,
     ) -> Result<Option<Extent>, RequestFault>
-        requires { size out.old < 2 ^ 32 }
+        requires inside { out.old.used ≤ size out.old }
+        requires short { size out.old < 2 ^ 32 }
         ensures { Kept out.old out.new }
     {
         let start = out.written().len();
@@ -108,7 +109,8 @@ impl<'s, S: Source, R: ScalarRule> Request<'_, 's, '_, S, R> {
 
     // Writes the names and records of all variables, and tells where each stands.
     fn write(&self, out: &mut Working<'_>) -> Result<[Option<Extent>; MOST_VARIABLES], RequestFault>
-        requires { size out.old < 2 ^ 32 }
+        requires inside { out.old.used ≤ size out.old }
+        requires short { size out.old < 2 ^ 32 }
         ensures { Kept out.old out.new }
     {
         let mut extents = [None; MOST_VARIABLES];
