@@ -205,6 +205,13 @@ impl<'a> Schema<'a> {
         between(self.fields.as_slice(), self.inside(index))
     }
 
+    // The number of the first field of an input object; of none 0.
+    pub fn first_field(&self, index: usize) -> usize
+        ensures { result ≡ (inside_at self.now.types.items index).from }
+    {
+        self.inside(index).from
+    }
+
     // The arguments of a directive.
     pub fn arguments_of(&self, directive: &Directive<'_>) -> &[Field<'a>]
         ensures { result.now ≡ rows_in self.now.arguments.items directive.now.arguments }

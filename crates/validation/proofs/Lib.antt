@@ -26,3 +26,5 @@ pub mod Sourcing
 pub mod Making
 pub mod Rightness
 pub mod OperationSourcing
+pub mod ObjectsApart
+pub mod Unrepeated

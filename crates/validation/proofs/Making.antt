@@ -23,6 +23,9 @@ refused text NoMemory b = no_memory
 pub wanting : (text : List ℕ) (r : Result Schema _) (f : Fault) → r ≡ Err (Text f) → f ≡ NoMemory → MakesSchema text r
 wanting text r f e m = subst (MakesSchema text) (sym (e ∙ ap (λ g. Err (Text g)) m)) no_memory
 
+pub read_as : {text other : List ℕ} {e : ℕ} {D : Document} → other ≡ text → ReadsSchema text (got e D) → ReadsSchema other (got e D)
+read_as {e = e} {D = D} q r = subst (λ (t : List ℕ). ReadsSchema t (got e D)) (sym q) r
+
 pub first_in : (text other : List ℕ) (D : Document) (q r : Option ℕ) → other ≡ text → q ≡ r → FirstFault (RepeatedNameAt other D) q → FirstFault (RepeatedNameAt text D) r
 first_in text other D q r e z h = subst (λ t. FirstFault (RepeatedNameAt t D) r) e (subst (FirstFault (RepeatedNameAt other D)) z h)
 

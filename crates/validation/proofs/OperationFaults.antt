@@ -84,7 +84,7 @@ module _ (S : Document) (o : Operation) (D : OperationDocument) (h : HoldsOperat
       let here : variable_name v ≡ l = ap (λ n. labelled n v.name_place) e.0.name ∙ ap (labelled l.name) e.0.name_place in
       ap (λ k. k ∷ map variable_name vs) here ∙ ap (λ ls. l ∷ ls) (named vs ds e.1)
 
-  names_are : map variable_name (vec_items o.variables) ≡ variable_labels D.variables
+  pub names_are : map variable_name (vec_items o.variables) ≡ variable_labels D.variables
   names_are = named (vec_items o.variables) D.variables h.variables
 
   abbrev Defaults : ℕ → Type 0

@@ -158,5 +158,8 @@ module _ (text : List ℕ) where
   from_reading {b} {d} {i} {o} (r_list {s = s} {q = q} n h r z) = from_start b d s o (list_place s q o z) n.skipped.within (r_list (seen_here n) h r z)
   from_reading {b} {d} {i} {o} (r_object {s = s} {q = q} n h r z) = from_start b d s o (object_place s q o z) n.skipped.within (r_object (seen_here n) h r z)
 
+  pub literal_here : {d i j : ℕ} {t : Raw} → Reads N Graphql false d i (got j t) → (place_of t ≤ length text) × Reads N Graphql false d (place_of t) (got j t)
+  literal_here r = from_reading r
+
   pub literal_again : {d i j : ℕ} {t : Raw} → Reads N Graphql false d i (got j t) → (place_of t ≤ length text) × (Reads N Graphql true d (place_of t) (got j t) ⊎ ((p : ℕ) × Reads N Graphql true d (place_of t) (fails (RepeatedName p))))
   literal_again r = let h = from_reading r in (h.0, again N Graphql h.1)

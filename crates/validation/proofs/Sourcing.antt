@@ -18,7 +18,7 @@ use Rattle.schema.specs.Declarations.{ReadsLiteral, ReadsDefault, ReadsDeclared}
 use Rattle.schema.specs.SchemaGrammar.{ends}
 use Rattle.schema.specs.SchemaReading.{inputs_of, arguments_of, inputs_in, arguments_in, Counts, counted, Sort, s_scalar, s_enum, s_input, s_output, Keyword, k_type, k_directive, a_keyword, next, ReadsField, ReadsFieldList, ReadsFields, ReadsArguments, ReadsManner, ReadsAllLocations, ReadsDirective, ReadsContents, ReadsAfter, ReadsDefinition, ReadsNew, ReadsValues, ReadsSchema, schema_read}
 use Rattle.schema.proofs.Entering.{not_got}
-use Rattle.validation.specs.Making.{FirstFault, RepeatedNameAt, member_again, Sourced}
+use Rattle.validation.specs.Making.{FirstFault, Input, RepeatedNameAt, member_again, Sourced}
 use Rattle.validation.proofs.Least.{among_none}
 use Rattle.validation.proofs.Rereading.{literal_again}
 
@@ -164,10 +164,15 @@ module _ (text : List ℕ) where
   pub given : (o : Option Raw) (x : Raw) → o ≡ some x → DefaultRead M o → DefaultRead M (some x)
   given o x e h = subst (DefaultRead M) e h
 
+  -- a default of what was read
+  pub input_read : {e : ℕ} {D : Document} {d : Declared} {x : Raw} → ReadsSchema text (got e D) → Input D d → d.dflt ≡ some x → DefaultRead M (some x)
+  input_read {D = D} {d = d} {x = x} r i z =
+      let w = read_in r in
+      given d.dflt x z (⊎_elim (λ a. among_read M (inputs_in D) a w.0) (λ a. among_read M (arguments_in D) a w.1) i)
+
   pub sourced : {e : ℕ} {D : Document} → ReadsSchema text (got e D) → FirstFault (RepeatedNameAt text D) None → Sourced D
   sourced {e} {D} r h d i x z =
-      let w = read_in r in
-      let g = given d.dflt x z (⊎_elim (λ a. among_read M (inputs_in D) a w.0) (λ a. among_read M (arguments_in D) a w.1) i) in
+      let g = input_read r i z in
       let l = literal_again text g.2 in
       ⊎_elim
       (λ a. within (place_of x) g.1 x a)

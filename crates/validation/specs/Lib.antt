@@ -3,6 +3,7 @@ pub mod Faults
 pub mod Lacking
 pub mod Literals
 pub mod Making
+pub mod Objects
 pub mod Places
 pub mod Repeats
 pub mod OperationMade

@@ -16,6 +16,7 @@ pub mod literal;
 #[cfg(test)]
 mod literal_tests;
 pub mod members;
+mod objects;
 pub mod operations;
 mod place;
 pub mod repeats;
@@ -38,7 +39,7 @@ pub fn make_schema(heap: Global, text: &[u8]) -> Result<Schema<'_>, MakeFault>
     ensures few { IfOk result (λ s. vec_len s.types ≤ 256) }
 {
     let schema = document::read_schema(heap, text)?;
-    if let Some(at) = members::repeated_name(heap, &schema)? {
+    if let Some(at) = members::repeated_in_read(heap, &schema)? {
         return Err(MakeFault::Text(Fault::RepeatedName(at)));
     }
     if let Some(at) = types::unknown_type(&schema) {
@@ -66,7 +67,7 @@ pub fn make_operation<'a>(
     ensures few { IfOk result (λ o. vec_len o.variables ≤ 64) }
 {
     let operation = operation::read_operation(heap, schema, text)?;
-    if let Some(at) = operations::repeated_name(heap, &operation)? {
+    if let Some(at) = operations::repeated_in_read(heap, &operation)? {
         return Err(MakeFault::Text(Fault::RepeatedName(at)));
     }
     if let Some(at) = operations::unknown_type(&operation) {

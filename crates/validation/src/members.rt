@@ -4,10 +4,12 @@ ghost use Rattle.text.specs.declared.fault.Fault.TheVariants.{NoMemory};
 ghost use Rattle.source.specs.Table.{tree_table};
 ghost use Rattle.schema.specs.Documents.{Document};
 ghost use Rattle.schema.specs.Holds.{Holds};
+ghost use Rattle.schema.specs.SchemaReading.{ReadsSchema};
+ghost use Rattle.reader.specs.Reading.{got};
 ghost use Rattle.validation.specs.Making.{FirstFault, MemberTwice, RepeatedNameAt};
 ghost use Rattle.validation.specs.Repeats.{OneOf, DefaultTwice};
 
-use crate::{place, repeats};
+use crate::{objects, place, repeats};
 use reader::literal;
 use schema::definition::{Field, Schema};
 use schema::operation::{Argument, Variable};
@@ -60,6 +62,17 @@ pub fn repeated_name(heap: Global, schema: &Schema<'_>) -> Result<Option<usize>,
     let arguments = in_literals(&schema.tree, &schema.arguments, &mut nodes)?;
     let members = place::lesser(fields, arguments);
     Ok(place::lesser(repeats::name_twice(schema), members))
+}
+
+// The same of a schema that was read from its text, which is read again only where an object in the tree has two members of one name.
+pub(crate) fn repeated_in_read(heap: Global, schema: &Schema<'_>) -> Result<Option<usize>, Fault>
+    ensures first { (e : ℕ) (D : Document) → ReadsSchema schema.now.tree.text.now (got e D) → Holds schema.now D → IfOk result (FirstFault (RepeatedNameAt schema.now.tree.text.now D)) }
+    ensures memory { IfErr result (λ f. f ≡ NoMemory) }
+{
+    if !objects::all_apart(heap, &schema.tree)? {
+        return repeated_name(heap, schema);
+    }
+    Ok(repeats::name_twice(schema))
 }
 
 // The first member's name that is again in a literal of these. The nodes that are read on the way are for no one.
