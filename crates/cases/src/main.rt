@@ -1,6 +1,6 @@
 // Runs a table of cases, one to a line of standard input, and answers each with a line.
 // A request has five fields, with a tab between them: title, schema, operation, capacity and variables, which are JSON.
-// With `json`, `literal` or `sheet` before the variables, these are read so.
+// With `json`, `literal` or `sheet` before the variables, these are read so; with no such word, JSON may hold tabs.
 // A text has three: title, what it is (`json`, `literal` or `sheet`) and the text, which is read and shown.
 // In the texts `^N^text^` stands for `text` N times, in it `\i` for the number of the turn, and `\xHH` for a byte.
 #![tactic(auto)]

@@ -70,43 +70,47 @@ fn number(digits: &[u8]) -> Option<usize> {
     text.parse().ok()
 }
 
-// The byte that a text writes first, as itself or as `\xHH`, and the text after it.
-fn byte(first: u8, after: &[u8]) -> (u8, &[u8])
+// The byte that `\` and the text after it write first, as `\xHH` or as `\` itself, and the text after that.
+#[inline(always)]
+fn byte(after: &[u8]) -> (u8, &[u8])
     ensures { length result.1.now ≤ length after.now }
 {
-    if first == b'\\'
-        && let [b'x', high, low, rest @ ..] = after
+    if let [b'x', high, low, rest @ ..] = after
         && let Ok(bytes) = <[u8; 1]>::from_hex([*high, *low])
     {
         return (bytes[0], rest);
     }
-    (first, after)
+    (b'\\', after)
 }
 
-// Adds the byte that a text writes first, and tells what comes after it.
-fn add_byte<'t>(first: u8, after: &'t [u8], out: &mut Vec<u8>) -> Result<&'t [u8], Misread>
-    ensures { IfOk result (λ rest. length rest.now ≤ length after.now) }
-{
-    let (b, rest) = byte(first, after);
-    out.push(b)?;
-    Ok(rest)
+// Adds the number of a turn; apart, so that the loop over a turn's bytes stays small.
+#[inline(never)]
+fn add_turn(heap: Global, turn: usize, out: &mut Vec<u8>) -> Result<(), Misread> {
+    out.extend_from_slice(format!(in heap; "{turn}")?.as_bytes())?;
+    Ok(())
 }
 
 // Adds the bytes that a repeated text writes in a turn, which is the number that `\i` stands for.
 fn add(heap: Global, text: &[u8], turn: usize, out: &mut Vec<u8>) -> Result<(), Misread> {
     let mut rest = text;
     while let [first, after @ ..] = rest {
-        rest = if let [b'\\', b'i', after @ ..] = rest {
-            out.extend_from_slice(format!(in heap; "{turn}")?.as_bytes())?;
+        rest = if *first != b'\\' {
+            out.push(*first)?;
+            after
+        } else if let [b'i', after @ ..] = after {
+            add_turn(heap, turn, out)?;
             after
         } else {
-            add_byte(*first, after, out)?
+            let (b, after) = byte(after);
+            out.push(b)?;
+            after
         };
     }
     Ok(())
 }
 
 // Adds what `N^text^` writes that begins a text, and tells what comes after it.
+#[inline(never)]
 fn repeat<'t>(heap: Global, text: &'t [u8], out: &mut Vec<u8>) -> Result<&'t [u8], Misread>
     ensures { IfOk result (λ rest. length rest.now < length text.now) }
 {
@@ -123,10 +127,17 @@ fn field(heap: Global, text: &[u8]) -> Result<Vec<u8>, Misread> {
     let mut out = Vec::new(heap);
     let mut rest = text;
     while let [first, after @ ..] = rest {
-        rest = if *first == b'^' {
-            repeat(heap, after, &mut out)?
-        } else {
-            add_byte(*first, after, &mut out)?
+        rest = match *first {
+            b'^' => repeat(heap, after, &mut out)?,
+            b'\\' => {
+                let (b, after) = byte(after);
+                out.push(b)?;
+                after
+            }
+            b => {
+                out.push(b)?;
+                after
+            }
         };
     }
     Ok(out)
@@ -142,17 +153,31 @@ fn read_as(word: &[u8]) -> Result<Reading, Misread> {
     }
 }
 
+// What the variables are read as, and their text: all that is left is JSON where no word says it.
+fn cut_reading(rest: &[u8]) -> (Reading, &[u8]) {
+    if let Some(text) = rest.strip_prefix(b"json\t") {
+        (Reading::Json, text)
+    } else if let Some(text) = rest.strip_prefix(b"literal\t") {
+        (Reading::Literal, text)
+    } else if let Some(text) = rest.strip_prefix(b"sheet\t") {
+        (Reading::Sheet, text)
+    } else {
+        (Reading::Json, rest)
+    }
+}
+
 // The request that the fields after a title write.
 fn request(heap: Global, fields: &[u8]) -> Result<Case, Misread> {
     let (schema, rest) = cut(fields, b'\t')?;
     let (operation, rest) = cut(rest, b'\t')?;
     let (capacity, rest) = cut(rest, b'\t')?;
-    let (word, variables) = cut(rest, b'\t').unwrap_or((b"json", rest));
+    let capacity = number(capacity).ok_or(Misread::Wrong)?;
+    let (reading, variables) = cut_reading(rest);
     Ok(Case {
         schema: field(heap, schema)?,
         operation: field(heap, operation)?,
-        capacity: number(capacity).ok_or(Misread::Wrong)?,
-        reading: read_as(word)?,
+        capacity,
+        reading,
         variables: field(heap, variables)?,
     })
 }
