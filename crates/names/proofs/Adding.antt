@@ -1,7 +1,7 @@
 -- A link that is added.
 use Rattle.std.proofs.Common.{◌≡◌, ℕ, zero, suc, ◌+◌, ◌<◌, ◌≤◌, Bool, true, false, ◌⊎◌, List, [], ◌∷◌, ◌++◌, Some, length, get_or, take, drop, set, sym, refl, ap, ◌∙◌, subst, inl, inr, ⊎_elim, arith}
 use Rattle.std.proofs.lemmas.List.{length_push, length-set, get_or_append_left, get_or_push, get_or-set_same, get_or-set_other, get_or_read, drop-append-le, take-append-le, take-set-le}
-use Rattle.std.proofs.lemmas.Bool.{cases_lt, cases_eq, cases_Bool, cond-false}
+use Rattle.std.proofs.lemmas.Bool.{cases_lt, cases_eq, cases_Bool, cond-true, cond-false, lt-ltb}
 use Rattle.model.specs.Values.{Name, has, same}
 use Rattle.model.proofs.CoNames.{same_true, has_head, has_later}
 use Rattle.names.specs.declared.names.Link.{Link}
@@ -72,9 +72,9 @@ grown_push before new =
           };
     }
 
-child_new : (l : Link) (side : Bool) (c : ℕ) → child_of (linked l side c) side ≡ Some c
-child_new l true c = refl
-child_new l false c = refl
+child_new : (l : Link) (side : Bool) (c : ℕ) → 0 < c → child_of (linked l side c) side ≡ Some c
+child_new l true c h = cond-true _ _ _ (lt-ltb 0 c h)
+child_new l false c h = cond-true _ _ _ (lt-ltb 0 c h)
 
 child_kept : (l : Link) (side s : Bool) (c : ℕ) → (s ≡ side → ⊥) → child_of (linked l side c) s ≡ child_of l s
 child_kept l true true c ne = absurd (ne refl)
@@ -143,7 +143,7 @@ module _ (before mid : List Link) (new : Link) (at : ℕ) (side : Bool) (c : ℕ
   new_child : c ≡ length before → Child after at side c
   new_child e =
       record {
-        is = ap (λ (l : Link). child_of l side) at_set ∙ child_new (get_or mid at blank) side c;
+        is = ap (λ (l : Link). child_of l side) at_set ∙ child_new (get_or mid at blank) side c (omega arith);
         after = omega arith;
         within = omega (arith, g.long, length-set mid at (linked (get_or mid at blank) side c));
       }

@@ -1,23 +1,32 @@
 -- The links of the names of an object, and what adding a name does.
-use Rattle.std.specs.Prelude.{◌≡◌, ℕ, ◌+◌, ◌<◌, ◌≤◌, Bool, true, false, cond, List, [], ◌∷◌, ◌++◌, length, get_or, take, drop, Some, None, Ok, Err, Option, Result, ◌≢◌, slice_index_or}
+use Rattle.std.specs.Prelude.{◌≡◌, ℕ, ◌+◌, ◌<◌, ◌≤◌, Bool, true, false, cond, List, [], ◌∷◌, ◌++◌, length, get_or, take, drop, Some, None, Ok, Err, Option, Result, ◌≢◌, slice_index_or, nat_lt}
 use Rattle.model.specs.Values.{has}
 use Rattle.names.specs.declared.part.Part.{Part}
 use Rattle.names.specs.declared.part.Part.TheVariants.{Text}
+use Rattle.names.specs.declared.child.ChildIndex.{ChildIndex}
 use Rattle.names.specs.declared.names.Link.{Link}
 use Rattle.names.specs.Parts.{PartFits, bytes_of}
 use Rattle.names.specs.Bits.{name_hash, bit_of}
 
+-- what holds the index of a child; 0 for none
+abbrev pub child_at : ℕ → ChildIndex
+child_at c = record { index = c }
+
+-- the index of the child, if there is one
+abbrev pub index_of : ChildIndex → Option ℕ
+index_of c = cond (nat_lt 0 c.index) (Some c.index) None
+
 -- what stands past the end
 abbrev pub blank : Link
-blank = record { name = Text 0 0; hash = 0; low = None; high = None }
+blank = record { name = Text 0 0; hash = 0; low = child_at 0; high = child_at 0 }
 
 -- the child of a link on the high (true) or the low side
 abbrev pub child_of : Link → Bool → Option ℕ
-child_of l side = cond side l.high l.low
+child_of l side = index_of (cond side l.high l.low)
 
 -- a link with another child
 abbrev pub linked : Link → Bool → ℕ → Link
-linked l side c = record { name = l.name; hash = l.hash; low = cond side l.low (Some c); high = cond side (Some c) l.high }
+linked l side c = record { name = l.name; hash = l.hash; low = cond side l.low (child_at c); high = cond side (child_at c) l.high }
 
 -- the name of the link at k
 abbrev pub name_at : (text pool : List ℕ) → List Link → ℕ → List ℕ

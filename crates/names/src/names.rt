@@ -3,6 +3,7 @@ ghost use Rattle.std.specs.Prelude.{◌≡◌, ◌<◌, [], length, take};
 ghost use Rattle.names.specs.Bits.{name_hash, bit_of};
 ghost use Rattle.names.specs.Index.{child_of, linked, AddTold, LeafTold};
 
+use crate::child::ChildIndex;
 use crate::part::{Holder, Part};
 use std::alloc::{AllocError, Global};
 
@@ -21,8 +22,8 @@ const FNV_PRIME: u32 = 16777619;
 pub struct Link {
     pub name: Part,
     pub hash: u32,
-    pub low: Option<usize>,
-    pub high: Option<usize>,
+    pub low: ChildIndex,
+    pub high: ChildIndex,
 }
 
 // The names of the members of the objects that are open, the innermost object's last.
@@ -60,14 +61,15 @@ impl Link {
     fn child(&self, high: bool) -> Option<usize>
         ensures { result ≡ child_of self.now high }
     {
-        if high { self.high } else { self.low }
+        let child = if high { self.high } else { self.low };
+        child.index()
     }
 
     // The link with another child.
     fn with_child(self, high: bool, child: usize) -> Link
         ensures { result ≡ linked self high child }
     {
-        let child = Some(child);
+        let child = ChildIndex::at(child);
         if high {
             Link {
                 high: child,
@@ -126,8 +128,8 @@ impl Names {
         let link = Link {
             name,
             hash,
-            low: None,
-            high: None,
+            low: ChildIndex::NONE,
+            high: ChildIndex::NONE,
         };
         if base >= end {
             self.links.push(link)?;
