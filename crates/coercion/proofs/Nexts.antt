@@ -16,26 +16,28 @@ use Rattle.coercion.specs.declared.frames.Rest.TheVariants.{Single, Items, Membe
 use Rattle.coercion.specs.declared.walk.Step.{Step}
 use Rattle.coercion.specs.Levels.{Coming, Rest, items, kept, members, follows}
 use Rattle.coercion.specs.Openings.{RestIs, single_is, single_taken, items_are, contents_are, members_are}
+use Rattle.coercion.specs.Frames.{field_in, default_in}
 use Rattle.coercion.specs.Told.{FieldIs, ShapeHeld, StepIs, GoesOn, NextIs}
 
 -- the step to a value in a frame, and the frame with that left
 abbrev pub step_of : Frame → Option (Bor (List ℕ)) → ℕ → Step
-step_of f n at = record { name = n; at = at; shape = f.inside.shape; field = f.field; in_default = f.in_default }
+step_of f n at = record { name = n; at = at; within = f.within }
 
 abbrev pub frame_with : Frame → Option RestIn → Frame
-frame_with f q = record { inside = record { rest = q; shape = f.inside.shape; scalar = f.inside.scalar }; start = f.start; at = f.at; field = f.field; in_default = f.in_default }
+frame_with f q = record { inside = record { rest = q; shape = f.inside.shape; scalar = f.inside.scalar }; start = f.start; at = f.at; within = f.within }
 
 abbrev pub coming_of : ℕ → Form → Here → mathlib.Core.Option.Option Name → Raw → mathlib.Core.Option.Option Ty → Coming
 coming_of k p h n x t = record { bound = k; form = p; here = h; name = n; raw = x; ty = t }
 
 module _ (stands : ℕ → Raw → Type 0) (items_in : Span → Raws → Type 0) (members_in : Span → Mems → Type 0) (named : ℕ → List ℕ → Type 0) (rows : List FieldRow) (D : Document) (f : Frame) (k : ℕ) (p : Form) (h : Here)
-    (field : FieldIs rows f.field h.field) (in_default : f.in_default ≡ h.in_default) where
+    (field : FieldIs rows (field_in f.within) h.field) (in_default : default_in f.within ≡ h.in_default) where
   pub single_next : (at : ℕ) (x : Rest) (q : Option RestIn) (s : Option (Shape Base)) (r : Step × Frame) → RestIs stands items_in members_in D q s x → q ≡ Some (Single at) → s ≡ f.inside.shape
       → r.0 ≡ step_of f None at → r.1 ≡ frame_with f None → NextIs stands items_in members_in rows D f (Ok (Some r)) (follows k p h x)
   single_next at x q s r (single_is {at = c} {s = t} {rs} {t = y} {x = z} st sh) e m u v =
       let l : c ≡ at = cc in (
-        subst (λ w. StepIs stands rows D w (coming_of k p h none z (some y))) (sym u) (record { name = tt; raw = subst (λ n. stands n z) l st; shape = subst (λ g. ShapeHeld D g (some y)) m sh; field = field; in_default = in_default }),
-        subst (λ w. GoesOn stands items_in members_in D f w (items rs y nil)) (sym v) (record { rest = subst (λ g. RestIs stands items_in members_in D None g (items rs y nil)) m (single_taken sh); scalar = refl; start = refl; at = refl; field = refl; in_default = refl }),
+        subst (λ a. StepIs stands rows D a.inside.shape r.0 (coming_of k p h none z (some y))) (sym v)
+            (subst (λ a. StepIs stands rows D f.inside.shape a (coming_of k p h none z (some y))) (sym u) (record { name = tt; raw = subst (λ n. stands n z) l st; held = subst (λ g. ShapeHeld D g (some y)) m sh; field = field; in_default = in_default })),
+        subst (λ w. GoesOn stands items_in members_in D f w (items rs y nil)) (sym v) (record { rest = subst (λ g. RestIs stands items_in members_in D None g (items rs y nil)) m (single_taken sh); scalar = refl; start = refl; at = refl; within = refl }),
       )
   single_next at x q s r (single_taken sh) e m u v = cc
   single_next at x q s r (items_are i sh) e m u v = cc
@@ -62,15 +64,17 @@ module _ (stands : ℕ → Raw → Type 0) (items_in : Span → Raws → Type 0)
   item_next span left at x q s r (items_are {span = i} {rs = rs} {t = y} {xs = cons z zs} st sh) e m l u v =
       let w : i ≡ span = cc in
       let t = l (cons z zs) (subst (λ n. items_in n (cons z zs)) w st) in (
-        subst (λ a. StepIs stands rows D a (coming_of k p h none z (some y))) (sym u) (record { name = tt; raw = t.0; shape = subst (λ g. ShapeHeld D g (some y)) m sh; field = field; in_default = in_default }),
-        subst (λ a. GoesOn stands items_in members_in D f a (items rs y zs)) (sym v) (record { rest = subst (λ g. RestIs stands items_in members_in D (Some (Items left)) g (items rs y zs)) m (items_are t.1 sh); scalar = refl; start = refl; at = refl; field = refl; in_default = refl }),
+        subst (λ a. StepIs stands rows D a.inside.shape r.0 (coming_of k p h none z (some y))) (sym v)
+            (subst (λ a. StepIs stands rows D f.inside.shape a (coming_of k p h none z (some y))) (sym u) (record { name = tt; raw = t.0; held = subst (λ g. ShapeHeld D g (some y)) m sh; field = field; in_default = in_default })),
+        subst (λ a. GoesOn stands items_in members_in D f a (items rs y zs)) (sym v) (record { rest = subst (λ g. RestIs stands items_in members_in D (Some (Items left)) g (items rs y zs)) m (items_are t.1 sh); scalar = refl; start = refl; at = refl; within = refl }),
       )
   item_next span left at x q s r (contents_are {span = i} {xs = nil} st) e m l u v = let w : i ≡ span = cc in absurd (l nil (subst (λ n. items_in n nil) w st))
   item_next span left at x q s r (contents_are {span = i} {rs = rs} {xs = cons z zs} st) e m l u v =
       let w : i ≡ span = cc in
       let t = l (cons z zs) (subst (λ n. items_in n (cons z zs)) w st) in (
-        subst (λ a. StepIs stands rows D a (coming_of k p h none z none)) (sym u) (record { name = tt; raw = t.0; shape = subst (λ g. ShapeHeld D g none) m tt; field = field; in_default = in_default }),
-        subst (λ a. GoesOn stands items_in members_in D f a (kept rs zs)) (sym v) (record { rest = subst (λ g. RestIs stands items_in members_in D (Some (Items left)) g (kept rs zs)) m (contents_are t.1); scalar = refl; start = refl; at = refl; field = refl; in_default = refl }),
+        subst (λ a. StepIs stands rows D a.inside.shape r.0 (coming_of k p h none z none)) (sym v)
+            (subst (λ a. StepIs stands rows D f.inside.shape a (coming_of k p h none z none)) (sym u) (record { name = tt; raw = t.0; held = subst (λ g. ShapeHeld D g none) m tt; field = field; in_default = in_default })),
+        subst (λ a. GoesOn stands items_in members_in D f a (kept rs zs)) (sym v) (record { rest = subst (λ g. RestIs stands items_in members_in D (Some (Items left)) g (kept rs zs)) m (contents_are t.1); scalar = refl; start = refl; at = refl; within = refl }),
       )
   item_next span left at x q s r (members_are st) e m l u v = cc
 
@@ -95,6 +99,7 @@ module _ (stands : ℕ → Raw → Type 0) (items_in : Span → Raws → Type 0)
   member_next span left at called x q s r (members_are {span = i} {rs = rs} {ms = mem o z zs} st) e m l n u v =
       let w : i ≡ span = cc in
       let t = l (mem o z zs) (subst (λ a. members_in a (mem o z zs)) w st) in (
-        subst (λ a. StepIs stands rows D a (coming_of k p h (some o) z none)) (sym u) (record { name = n o t.0; raw = t.1; shape = subst (λ g. ShapeHeld D g none) m tt; field = field; in_default = in_default }),
-        subst (λ a. GoesOn stands items_in members_in D f a (members rs zs)) (sym v) (record { rest = subst (λ g. RestIs stands items_in members_in D (Some (Members left)) g (members rs zs)) m (members_are t.2); scalar = refl; start = refl; at = refl; field = refl; in_default = refl }),
+        subst (λ a. StepIs stands rows D a.inside.shape r.0 (coming_of k p h (some o) z none)) (sym v)
+            (subst (λ a. StepIs stands rows D f.inside.shape a (coming_of k p h (some o) z none)) (sym u) (record { name = n o t.0; raw = t.1; held = subst (λ g. ShapeHeld D g none) m tt; field = field; in_default = in_default })),
+        subst (λ a. GoesOn stands items_in members_in D f a (members rs zs)) (sym v) (record { rest = subst (λ g. RestIs stands items_in members_in D (Some (Members left)) g (members rs zs)) m (members_are t.2); scalar = refl; start = refl; at = refl; within = refl }),
       )

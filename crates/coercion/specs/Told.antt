@@ -18,6 +18,7 @@ use Rattle.coercion.specs.declared.fault.ValueFault.{ValueFault}
 use Rattle.coercion.specs.declared.frames.Frame.{Frame}
 use Rattle.coercion.specs.declared.walk.Step.{Step}
 use Rattle.coercion.specs.Faults.{number_of, layer_of, spot_of}
+use Rattle.coercion.specs.Frames.{field_in, default_in}
 use Rattle.coercion.specs.Levels.{Opens, whole, holds, fails, Level, Coming, Rest, Follows, nothing, next, missing, too_far}
 use Rattle.record.specs.declared.body.Body.{Body}
 use Rattle.coercion.specs.Bodies.{NameIs, Writes}
@@ -49,13 +50,13 @@ ShapeHeld D None (some t) = ⊥
 ShapeHeld D (Some s) none = ⊥
 ShapeHeld D (Some s) (some t) = ShapeIs D s t
 
--- a step is a value that comes
-pub record StepIs (stands : ℕ → Raw → Type 0) (rows : List FieldRow) (D : Document) (s : Step) (c : Coming) : Type 0 where
+-- a step is a value that comes, at the type that its frame has then
+pub record StepIs (stands : ℕ → Raw → Type 0) (rows : List FieldRow) (D : Document) (shape : Option (Shape Base)) (s : Step) (c : Coming) : Type 0 where
   pub name : NameIs s.name c.name
   pub raw : stands s.at c.raw
-  pub shape : ShapeHeld D s.shape c.ty
-  pub field : FieldIs rows s.field c.here.field
-  pub in_default : s.in_default ≡ c.here.in_default
+  pub held : ShapeHeld D shape c.ty
+  pub field : FieldIs rows (field_in s.within) c.here.field
+  pub in_default : default_in s.within ≡ c.here.in_default
 
 -- a frame is an open record
 pub record FrameIs (stands : ℕ → Raw → Type 0) (items_in : Span → Raws → Type 0) (members_in : Span → Mems → Type 0) (rows : List FieldRow) (D : Document) (f : Frame) (m : Level) : Type 0 where
@@ -65,8 +66,8 @@ pub record FrameIs (stands : ℕ → Raw → Type 0) (items_in : Span → Raws �
   pub raw : Raw
   pub there : stands f.at raw
   pub place : place_of raw ≡ m.at
-  pub field : FieldIs rows f.field m.here.field
-  pub in_default : f.in_default ≡ m.here.in_default
+  pub field : FieldIs rows (field_in f.within) m.here.field
+  pub in_default : default_in f.within ≡ m.here.in_default
 
 -- the tests of a value say that it fails so
 abbrev pub FailsAs : List FieldRow → ℕ → Here → ValueFault → Opens → Type 0
@@ -80,8 +81,7 @@ pub record GoesOn (stands : ℕ → Raw → Type 0) (items_in : Span → Raws �
   pub scalar : new.inside.scalar ≡ old.inside.scalar
   pub start : new.start ≡ old.start
   pub at : new.at ≡ old.at
-  pub field : new.field ≡ old.field
-  pub in_default : new.in_default ≡ old.in_default
+  pub within : new.within ≡ old.within
 
 -- what comes next in a frame is what follows in the record
 abbrev pub NextIs : (stands : ℕ → Raw → Type 0) (items_in : Span → Raws → Type 0) (members_in : Span → Mems → Type 0) → List FieldRow → Document → Frame → Result (Option (Step × Frame)) ValueFault → Follows → Type 0
@@ -90,7 +90,7 @@ NextIs stands items_in members_in rows D f (Ok None) (next c y) = ⊥
 NextIs stands items_in members_in rows D f (Ok None) (missing n) = ⊥
 NextIs stands items_in members_in rows D f (Ok None) too_far = Unit {0}
 NextIs stands items_in members_in rows D f (Ok (Some p)) nothing = ⊥
-NextIs stands items_in members_in rows D f (Ok (Some p)) (next c y) = StepIs stands rows D p.0 c × GoesOn stands items_in members_in D f p.1 y
+NextIs stands items_in members_in rows D f (Ok (Some p)) (next c y) = StepIs stands rows D p.1.inside.shape p.0 c × GoesOn stands items_in members_in D f p.1 y
 NextIs stands items_in members_in rows D f (Ok (Some p)) (missing n) = ⊥
 NextIs stands items_in members_in rows D f (Ok (Some p)) too_far = Unit {0}
 NextIs stands items_in members_in rows D f (Err e) nothing = ⊥

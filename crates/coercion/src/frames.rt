@@ -1,4 +1,7 @@
 // The open records of a walk.
+ghost use Rattle.std.specs.Prelude.{◌≡◌};
+ghost use Rattle.coercion.specs.Frames.{field_in, default_in};
+
 use arrayvec::ArrayVec;
 use schema::types::Shape;
 pub use source::limits::DEEPEST;
@@ -16,12 +19,44 @@ pub enum Rest {
     Fields { members: Span, fields: Span },
 }
 
+// What a value is in. A default of the schema is always one of a field.
+#[derive(Clone, Copy, Default)]
+pub enum Within {
+    // No input field.
+    #[default]
+    Outside,
+    // The input field with that index, the innermost.
+    Field(usize),
+    // A default of the schema, and there, or around it, that field.
+    Default(usize),
+}
+
+impl Within {
+    // The index of the innermost input field.
+    pub(crate) fn field(self) -> Option<usize>
+        ensures { result ≡ field_in self }
+    {
+        match self {
+            Within::Outside => None,
+            Within::Field(index) | Within::Default(index) => Some(index),
+        }
+    }
+
+    // Whether it is a default of the schema.
+    pub(crate) fn is_default(self) -> bool
+        ensures { result ≡ default_in self }
+    {
+        matches!(self, Within::Default(_))
+    }
+}
+
 // What is in a record, and how it is taken.
 #[derive(Clone, Copy, Default)]
 pub struct Inside {
     // Of a list or an object, what is still to come.
     pub rest: Option<Rest>,
-    // The type of that. Inside a custom scalar, where everything is kept as it is, there is none; a field has its own.
+    // The type of that. Inside a custom scalar, where everything is kept as it is, there is none; of an input object it
+    // is that of the field taken last.
     pub shape: Option<Shape>,
     // The custom scalar that the record is a value of.
     pub scalar: Option<usize>,
@@ -35,10 +70,8 @@ pub struct Frame {
     pub start: usize,
     // The cursor of the record's raw value.
     pub at: usize,
-    // The index of the innermost input field that the value is in.
-    pub field: Option<usize>,
-    // Whether the value is in a default of the schema.
-    pub in_default: bool,
+    // What the value is in.
+    pub within: Within,
 }
 
 // The open records, the innermost last.

@@ -10,14 +10,14 @@ ghost use Rattle.model.specs.Scalars.{as_enum, scalar_at as plain_at};
 ghost use Rattle.source.specs.Heads.{kind_of, scalar_kind};
 ghost use Rattle.schema.specs.Spans.{rows_in, inside_at};
 ghost use Rattle.schema.specs.Documents.{Document};
-ghost use Rattle.coercion.specs.Frames.{Rooted, Stacked, left};
+ghost use Rattle.coercion.specs.Frames.{Stacked, left, field_in, default_in};
 ghost use Rattle.coercion.specs.Levels.{opens_kept, follows, Rest as OpenRest};
 ghost use Rattle.coercion.specs.States.{Opened};
 ghost use Rattle.coercion.specs.Openings.{AsksIs, OpensAs, RestIs};
 ghost use Rattle.coercion.specs.Told.{form_of, Means, PlainTold, FieldIs, NextIs, beside, Later, MemberTold};
 
 use crate::fault::{Spot, ValueFault};
-use crate::frames::{Frame, Frames, Inside, Rest};
+use crate::frames::{Frame, Frames, Inside, Rest, Within};
 use crate::rule::ScalarRule;
 use lookup::{Lookup, Table};
 use record::body::Body;
@@ -44,37 +44,22 @@ pub struct Walk<'w, 's, S, R> {
     pub placed: bool,
 }
 
-// A record that is to be opened.
+// A record that is kept as it is.
 #[derive(Clone, Copy)]
 struct Opening<'s> {
     body: Body<'s>,
     inside: Inside,
 }
 
-impl<'s> Opening<'s> {
-    // A record that holds nothing but its body.
-    fn leaf(body: Body<'s>) -> Opening<'s>
-        ensures body { result.body ≡ body.entry }
-        ensures inside { result.inside ≡ record { rest = None; shape = None; scalar = None } }
+impl Inside {
+    // Items of a type.
+    fn items(rest: Rest, item: Shape) -> Inside
+        ensures { result ≡ record { rest = Some rest; shape = Some item; scalar = None } }
     {
-        Opening {
-            body,
-            inside: Inside::default(),
-        }
-    }
-
-    // A list of items of a type.
-    fn list(rest: Rest, item: Shape) -> Opening<'s>
-        ensures body { result.body ≡ ListBody }
-        ensures inside { result.inside ≡ record { rest = Some rest; shape = Some item; scalar = None } }
-    {
-        Opening {
-            body: Body::List,
-            inside: Inside {
-                rest: Some(rest),
-                shape: Some(item),
-                scalar: None,
-            },
+        Inside {
+            rest: Some(rest),
+            shape: Some(item),
+            scalar: None,
         }
     }
 }
@@ -86,27 +71,21 @@ struct Step<'s> {
     name: Option<&'s [u8]>,
     // The cursor of the value.
     at: usize,
-    // Its type, unless it is kept as it is.
-    shape: Option<Shape>,
-    // The index of the innermost input field that it is in.
-    field: Option<usize>,
-    // Whether it is in a default of the schema.
-    in_default: bool,
+    // What it is in.
+    within: Within,
 }
 
 impl Frame {
     // The value at the cursor in the record, where that is still to come after it.
     fn value<'n>(&mut self, name: Option<&'n [u8]>, at: usize, rest: Option<Rest>) -> Step<'n>
-        ensures step { result ≡ record { name = name.entry; at = at; shape = self.old.inside.shape; field = self.old.field; in_default = self.old.in_default } }
+        ensures step { result ≡ record { name = name.entry; at = at; within = self.old.within } }
         ensures frame { self.new ≡ record self.old { inside = record self.old.inside { rest = rest } } }
     {
         self.inside.rest = rest;
         Step {
             name,
             at,
-            shape: self.inside.shape,
-            field: self.field,
-            in_default: self.in_default,
+            within: self.within,
         }
     }
 }
@@ -131,10 +110,10 @@ impl<'w, 's, S: Source, R: ScalarRule> Walk<'w, 's, S, R> {
         }
     }
 
-    fn spot(&self, at: usize, field: Option<usize>) -> Spot
+    fn spot(&self, at: usize, within: Within) -> Spot
         ensures place { (t : Raw) → S.stands self.now.source.now at t → result.place ≡ cond self.now.placed (place_of t) 0 }
         ensures variable { result.variable ≡ Some self.now.variable }
-        ensures field { result.field ≡ field }
+        ensures field { result.field ≡ field_in within }
     {
         let place = if self.placed {
             self.source.place(at)
@@ -144,7 +123,7 @@ impl<'w, 's, S: Source, R: ScalarRule> Walk<'w, 's, S, R> {
         Spot {
             place,
             variable: Some(self.variable),
-            field,
+            field: within.field(),
         }
     }
 
@@ -239,66 +218,93 @@ impl<'w, 's, S: Source, R: ScalarRule> Walk<'w, 's, S, R> {
         None
     }
 
-    // The record of an object at an input object's type.
-    fn object(&self, step: Step<'_>, index: usize) -> Result<Opening<'w>, ValueFault> {
+    // The body of the record of an object at an input object's type; what is to come in it is left in `inside`.
+    // Not inlined, as `next_field` is not, so that what goes over lists and scalars stays small.
+    #[inline(never)]
+    fn object(
+        &self,
+        step: &Step<'_>,
+        index: usize,
+        inside: &mut Inside,
+    ) -> Result<Body<'w>, ValueFault> {
         if let Some(at) = self.undeclared(step.at, self.schema.fields_of(index)) {
-            return Err(ValueFault::UnknownKey(self.spot(at, step.field)));
+            return Err(ValueFault::UnknownKey(self.spot(at, step.within)));
         }
-        let rest = Rest::Fields {
+        inside.rest = Some(Rest::Fields {
             members: self.source.inside(step.at),
             fields: self.schema.inside(index),
-        };
-        let inside = Inside {
-            rest: Some(rest),
-            shape: None,
-            scalar: None,
-        };
-        Ok(Opening {
-            body: Body::Object,
-            inside,
-        })
+        });
+        Ok(Body::Object)
     }
 
-    // The record of a value that is not null, where no list is wanted.
-    fn named(&self, step: Step<'_>, kind: Kind, base: Base) -> Result<Opening<'w>, ValueFault> {
+    // The same of a value that is not null, where no list is wanted.
+    fn named(
+        &self,
+        step: &Step<'_>,
+        kind: Kind,
+        base: Base,
+        inside: &mut Inside,
+    ) -> Result<Body<'w>, ValueFault> {
         match base {
-            Base::Custom(index) => Ok(self.contents(step.at, kind, Some(index))),
-            Base::Input(index) if kind == Kind::Object => self.object(step, index),
+            Base::Custom(index) => {
+                let opening = self.contents(step.at, kind, Some(index));
+                *inside = opening.inside;
+                Ok(opening.body)
+            }
+            Base::Input(index) if kind == Kind::Object => self.object(step, index, inside),
             _ => self
                 .scalar(step.at, kind, base)
-                .map(Opening::leaf)
-                .ok_or_else(|| ValueFault::WrongValue(self.spot(step.at, step.field))),
+                .ok_or_else(|| ValueFault::WrongValue(self.spot(step.at, step.within))),
         }
     }
 
-    // The record of a value at a type.
-    fn typed(&self, step: Step<'_>, kind: Kind, shape: Shape) -> Result<Opening<'w>, ValueFault> {
-        let Step { at, field, .. } = step;
+    // The same of a value at a type.
+    fn typed(
+        &self,
+        step: &Step<'_>,
+        kind: Kind,
+        shape: &Shape,
+        inside: &mut Inside,
+    ) -> Result<Body<'w>, ValueFault> {
+        let Step { at, within, .. } = *step;
         match (kind, shape.base) {
             (Kind::Null, _) if shape.is_non_null() => {
-                Err(ValueFault::NullValue(self.spot(at, field)))
+                Err(ValueFault::NullValue(self.spot(at, within)))
             }
-            (Kind::Null, _) => Ok(Opening::leaf(Body::Null)),
+            (Kind::Null, _) => Ok(Body::Null),
             (Kind::List, _) if shape.is_list() => {
-                let items = self.source.inside(at);
-                Ok(Opening::list(Rest::Items(items), shape.item()))
+                *inside = Inside::items(Rest::Items(self.source.inside(at)), shape.item());
+                Ok(Body::List)
             }
-            _ if shape.is_list() => Ok(Opening::list(Rest::Single(at), shape.item())),
-            _ => self.named(step, kind, shape.base),
+            _ if shape.is_list() => {
+                *inside = Inside::items(Rest::Single(at), shape.item());
+                Ok(Body::List)
+            }
+            (_, base) => self.named(step, kind, base, inside),
         }
     }
 
-    // The tests that come before the record of a value is opened.
-    fn opening(&self, step: Step<'_>) -> Result<Opening<'w>, ValueFault> {
-        let Step { at, field, .. } = step;
+    // The body of the record of a value, after the tests that come before it is opened; where something is to come in it,
+    // that is left in `inside`. Without a type it is kept as it is.
+    // Not inlined, and what is inside is left where the caller has room for it: moving it costs as much as the rest.
+    #[inline(never)]
+    fn opening(
+        &self,
+        step: &Step<'_>,
+        shape: Option<&Shape>,
+        inside: &mut Inside,
+    ) -> Result<Body<'w>, ValueFault> {
+        let Step { at, within, .. } = *step;
         let kind = self.source.kind(at);
         if kind == Kind::Variable {
-            return Err(ValueFault::VariableInValue(self.spot(at, field)));
+            return Err(ValueFault::VariableInValue(self.spot(at, within)));
         }
-        match step.shape {
-            Some(shape) => self.typed(step, kind, shape),
-            None => Ok(self.contents(at, kind, None)),
-        }
+        let Some(shape) = shape else {
+            let opening = self.contents(at, kind, None);
+            *inside = opening.inside;
+            return Ok(opening.body);
+        };
+        self.typed(step, kind, shape, inside)
     }
 
     // Asks the rule about a record that is written, if it is the value of a custom scalar.
@@ -307,57 +313,49 @@ impl<'w, 's, S: Source, R: ScalarRule> Walk<'w, 's, S, R> {
         scalar: Option<usize>,
         bytes: &[u8],
         at: usize,
-        field: Option<usize>,
+        within: Within,
     ) -> Result<(), ValueFault> {
         match scalar {
             Some(index) if !self.rule.accepts(self.schema.type_name(index), bytes) => {
-                Err(ValueFault::ScalarRefused(self.spot(at, field)))
+                Err(ValueFault::ScalarRefused(self.spot(at, within)))
             }
             _ => Ok(()),
         }
     }
 
-    // Opens the record of a value, with its name before it if it has one. Where something is still to come in it, it is
-    // left in `opened`. The frames are the open records around it but the innermost, for which there is to be room too.
+    // Opens the record of a value at a type, with its name before it if it has one.
     fn begin(
         &self,
-        step: Step<'_>,
+        step: &Step<'_>,
+        shape: Option<&Shape>,
         out: &mut Working<'_>,
-        frames: &Frames,
-        opened: &mut Frame,
-    ) -> Result<bool, ValueFault>
+        frames: &mut Frames,
+    ) -> Result<(), ValueFault>
         requires inside { out.old.used ≤ size out.old }
         requires short { size out.old < 2 ^ 32 }
+        requires stacked { Stacked out.old.used frames.old.items }
         ensures kept { Kept out.old out.new }
-        ensures written { OnOk result ((out.old.used + 6 ≤ out.new.used) × (length frames.now.items < 31)) }
-        ensures opened { IfOk result (λ more. more ≡ true → opened.new.start + 6 ≤ out.new.used) }
+        ensures opened { OnOk result ((out.old.used + 6 ≤ out.new.used) × (length frames.new.items ≤ length frames.old.items + 1) × Stacked out.new.used frames.new.items) }
     {
-        let Step {
-            name,
-            at,
-            field,
-            in_default,
-            ..
-        } = step;
-        let Opening { body, inside } = self.opening(step)?;
-        if frames.remaining_capacity() < 2 {
-            return Err(ValueFault::TooDeep(self.spot(at, field)));
+        let Step { name, at, within } = *step;
+        let mut inside = Inside::default();
+        let body = self.opening(step, shape, &mut inside)?;
+        if frames.is_full() {
+            return Err(ValueFault::TooDeep(self.spot(at, within)));
         }
         let start = out
             .begin(name, body)
-            .ok_or_else(|| ValueFault::NoSpace(self.spot(at, field)))?;
+            .ok_or_else(|| ValueFault::NoSpace(self.spot(at, within)))?;
         if inside.rest.is_none() {
-            self.settle(inside.scalar, &out.written()[start..], at, field)?;
-            return Ok(false);
+            return self.settle(inside.scalar, &out.written()[start..], at, within);
         }
-        *opened = Frame {
+        frames.push(Frame {
             inside,
             start,
             at,
-            field,
-            in_default,
-        };
-        Ok(true)
+            within,
+        });
+        Ok(())
     }
 
     // The member with the name of an object, and the members after it that are not looked at yet.
@@ -376,33 +374,30 @@ impl<'w, 's, S: Source, R: ScalarRule> Walk<'w, 's, S, R> {
         frame: &Frame,
         members: Span,
         index: usize,
+        field: &'w Field<'s>,
     ) -> Result<Option<(Step<'w>, Span)>, ValueFault> {
-        let Some(field) = self.schema.field(index) else {
-            return Ok(None);
-        };
-        let (at, in_default, members) = if let Some((at, rest)) = self.member(
-            frame.at, members, field.name,
-        ) {
-            (at, frame.in_default, rest)
+        let member = self.member(frame.at, members, field.name);
+        let (at, in_default, members) = if let Some((at, rest)) = member {
+            (at, frame.within.is_default(), rest)
         } else if let Some(at) = field.default {
             (at, true, members)
         } else if field.ty.shape.is_non_null() {
-            let spot = self.spot(frame.at, Some(index));
+            let spot = self.spot(frame.at, Within::Field(index));
             return Err(ValueFault::MissingField(spot));
         } else {
             return Ok(None);
         };
-        let step = Step {
-            name: Some(field.name),
-            at,
-            shape: Some(field.ty.shape),
-            field: Some(index),
-            in_default,
+        let within = if in_default {
+            Within::Default(index)
+        } else {
+            Within::Field(index)
         };
-        Ok(Some((step, members)))
+        let name = Some(field.name);
+        Ok(Some((Step { name, at, within }, members)))
     }
 
-    // The first of the fields that has a value; what comes after it is left in the record.
+    // The first of the fields that has a value; its type, and what comes after it, are left in the record.
+    #[inline(never)]
     fn next_field(
         &self,
         frame: &mut Frame,
@@ -412,12 +407,16 @@ impl<'w, 's, S: Source, R: ScalarRule> Walk<'w, 's, S, R> {
         ensures { frame.new.start ≡ frame.old.start }
     {
         for index in fields.from..fields.to {
-            if let Some((step, members)) = self.field(frame, members, index)? {
+            let Some(field) = self.schema.field(index) else {
+                continue;
+            };
+            if let Some((step, members)) = self.field(frame, members, index, field)? {
                 let fields = Span {
                     from: index + 1,
                     to: fields.to,
                 };
                 frame.inside.rest = Some(Rest::Fields { members, fields });
+                frame.inside.shape = Some(field.ty.shape);
                 return Ok(Some(step));
             }
         }
@@ -426,7 +425,7 @@ impl<'w, 's, S: Source, R: ScalarRule> Walk<'w, 's, S, R> {
 
     // The first of the values that are still to come in a record, which is left without it.
     fn next(&self, frame: &mut Frame) -> Result<Option<Step<'w>>, ValueFault>
-        ensures told { (D : Document) (k : ℕ) (p : Form) (h : Here) (x : OpenRest) → RestIs (S.stands self.now.source.now) (S.items self.now.source.now) (S.members self.now.source.now) D frame.old.inside.rest frame.old.inside.shape x → FieldIs self.now.schema.now.fields.items frame.old.field h.field → frame.old.in_default ≡ h.in_default → NextIs (S.stands self.now.source.now) (S.items self.now.source.now) (S.members self.now.source.now) self.now.schema.now.fields.items D frame.old (beside frame.new result) (follows k p h x) }
+        ensures told { (D : Document) (k : ℕ) (p : Form) (h : Here) (x : OpenRest) → RestIs (S.stands self.now.source.now) (S.items self.now.source.now) (S.members self.now.source.now) D frame.old.inside.rest frame.old.inside.shape x → FieldIs self.now.schema.now.fields.items (field_in frame.old.within) h.field → default_in frame.old.within ≡ h.in_default → NextIs (S.stands self.now.source.now) (S.items self.now.source.now) (S.members self.now.source.now) self.now.schema.now.fields.items D frame.old (beside frame.new result) (follows k p h x) }
         ensures same { frame.new.start ≡ frame.old.start }
     {
         let source = self.source;
@@ -450,99 +449,79 @@ impl<'w, 's, S: Source, R: ScalarRule> Walk<'w, 's, S, R> {
         }
     }
 
-    // Closes the innermost open record, which is not among the frames, and tells whether one around it is left in its place.
-    fn close(
-        &self,
-        frame: &mut Frame,
-        out: &mut Working<'_>,
-        frames: &mut Frames,
-    ) -> Result<bool, ValueFault>
+    // Closes the innermost open record.
+    fn close(&self, out: &mut Working<'_>, frames: &mut Frames) -> Result<(), ValueFault>
         requires inside { out.old.used ≤ size out.old }
         requires short { size out.old < 2 ^ 32 }
-        requires within { frame.old.start + 6 ≤ out.old.used }
         requires stacked { Stacked out.old.used frames.old.items }
+        requires open { 0 < length frames.old.items }
         ensures kept { Kept out.old out.new }
-        ensures falls { IfOk result (λ more. length frames.new.items + cond more 1 0 ≤ length frames.old.items) }
-        ensures within { IfOk result (λ more. more ≡ true → frame.new.start + 6 ≤ out.new.used) }
-        ensures stacked { OnOk result (Stacked out.new.used frames.new.items) }
         ensures used { out.new.used ≡ out.old.used }
+        ensures falls { OnOk result (length frames.new.items + 1 ≡ length frames.old.items) }
+        ensures stacked { OnOk result (Stacked out.new.used frames.new.items) }
     {
+        let Some(frame) = frames.as_slice().last() else {
+            return Ok(());
+        };
         out.finish(frame.start);
         self.settle(
             frame.inside.scalar,
             &out.written()[frame.start..],
             frame.at,
-            frame.field,
+            frame.within,
         )?;
-        let Some(outer) = frames.as_slice().last() else {
-            return Ok(false);
-        };
-        *frame = *outer;
         frames.truncate(frames.len() - 1);
-        Ok(true)
+        Ok(())
     }
 
-    // Goes on in the innermost open record, which is not among the frames: closes it, or opens the next one in it, with
-    // `inner` to put it in. Whether one is open then, which is left in its place.
-    fn turn(
-        &self,
-        frame: &mut Frame,
-        inner: &mut Frame,
-        out: &mut Working<'_>,
-        frames: &mut Frames,
-    ) -> Result<bool, ValueFault>
+    // Goes on in the innermost open record: closes it, or opens the next one in it.
+    // Inlined, so that the loop goes on without a result to be handed on: lists are walked in three quarters of the time.
+    #[inline(always)]
+    fn turn(&self, out: &mut Working<'_>, frames: &mut Frames) -> Result<(), ValueFault>
         requires inside { out.old.used ≤ size out.old }
         requires short { size out.old < 2 ^ 32 }
-        requires room { length frames.old.items < 32 }
-        requires within { frame.old.start + 6 ≤ out.old.used }
-        requires rooted { Rooted out.old.used frames.old.items }
+        requires stacked { Stacked out.old.used frames.old.items }
+        requires open { 0 < length frames.old.items }
         ensures kept { Kept out.old out.new }
-        ensures falls { IfOk result (λ more. left out.new frames.new.items + cond more 1 0 ≤ left out.old frames.old.items) }
-        ensures room { IfOk result (λ more. more ≡ true → length frames.new.items < 32) }
-        ensures within { IfOk result (λ more. more ≡ true → frame.new.start + 6 ≤ out.new.used) }
+        ensures falls { OnOk result (left out.new frames.new.items + 1 ≤ left out.old frames.old.items) }
         ensures stacked { OnOk result (Stacked out.new.used frames.new.items) }
     {
+        let Some(frame) = frames.get_mut(frames.len() - 1) else {
+            return Ok(());
+        };
         let Some(step) = self.next(frame)? else {
-            return self.close(frame, out, frames);
+            return self.close(out, frames);
         };
-        let opened = if step.in_default {
-            self.of_defaults().begin(step, out, frames, inner)?
+        let shape = frame.inside.shape;
+        if step.within.is_default() {
+            self.of_defaults().begin(&step, shape.as_ref(), out, frames)
         } else {
-            self.begin(step, out, frames, inner)?
-        };
-        if opened {
-            frames.push(*frame);
-            *frame = *inner;
+            self.begin(&step, shape.as_ref(), out, frames)
         }
-        Ok(true)
     }
 
     // The same again and again, until no record is open, or one of another source is.
     fn run(
         &self,
-        frame: &mut Frame,
+        in_default: bool,
         out: &mut Working<'_>,
         frames: &mut Frames,
-    ) -> Result<bool, ValueFault>
+    ) -> Result<(), ValueFault>
         requires inside { out.old.used ≤ size out.old }
         requires short { size out.old < 2 ^ 32 }
-        requires room { length frames.old.items < 32 }
-        requires within { frame.old.start + 6 ≤ out.old.used }
-        requires rooted { Rooted out.old.used frames.old.items }
+        requires stacked { Stacked out.old.used frames.old.items }
+        requires open { 0 < length frames.old.items }
         ensures kept { Kept out.old out.new }
-        ensures falls { IfOk result (λ more. left out.new frames.new.items + cond more 1 0 ≤ left out.old frames.old.items) }
-        ensures room { IfOk result (λ more. more ≡ true → length frames.new.items < 32) }
-        ensures within { IfOk result (λ more. more ≡ true → frame.new.start + 6 ≤ out.new.used) }
+        ensures falls { OnOk result (left out.new frames.new.items + 1 ≤ left out.old frames.old.items) }
         ensures stacked { OnOk result (Stacked out.new.used frames.new.items) }
     {
-        let in_default = frame.in_default;
-        let mut inner = Frame::default();
-        while self.turn(frame, &mut inner, out, frames)? {
-            if frame.in_default != in_default {
-                return Ok(true);
+        loop {
+            self.turn(out, frames)?;
+            match frames.as_slice().last() {
+                Some(frame) if frame.within.is_default() == in_default => {}
+                _ => return Ok(()),
             }
         }
-        Ok(false)
     }
 
     // The working bytes and the open frames stand side by side: of a struct that holds a guard, its maker is not told
@@ -564,19 +543,16 @@ impl<'w, 's, S: Source, R: ScalarRule> Walk<'w, 's, S, R> {
         let step = Step {
             name: Some(name),
             at,
-            shape: Some(ty.shape),
-            field: None,
-            in_default: false,
+            within: Within::Outside,
         };
+        self.begin(&step, Some(&ty.shape), out, frames)?;
         let defaults = self.of_defaults();
-        let mut frame = Frame::default();
-        let mut open = self.begin(step, out, frames, &mut frame)?;
-        while open {
-            open = if frame.in_default {
-                defaults.run(&mut frame, out, frames)?
+        while let Some(frame) = frames.as_slice().last() {
+            if frame.within.is_default() {
+                defaults.run(true, out, frames)?;
             } else {
-                self.run(&mut frame, out, frames)?
-            };
+                self.run(false, out, frames)?;
+            }
         }
         Ok(())
     }
