@@ -25,9 +25,9 @@ pub enum Within {
     // No input field.
     #[default]
     Outside,
-    // The input field with that index, the innermost.
+    // The innermost input field, by its index.
     Field(usize),
-    // A default of the schema, and there, or around it, that field.
+    // The same, and the default of that field, or of one around it.
     Default(usize),
 }
 

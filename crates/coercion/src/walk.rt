@@ -218,7 +218,8 @@ impl<'w, 's, S: Source, R: ScalarRule> Walk<'w, 's, S, R> {
         None
     }
 
-    // The body of the record of an object at an input object's type; what is to come in it is left in `inside`.
+    // The body of the record of an object at an input object's type; what is to come in it is left in `inside`, which
+    // comes in empty.
     // Not inlined, as `next_field` is not, so that what goes over lists and scalars stays small.
     #[inline(never)]
     fn object(
@@ -284,8 +285,8 @@ impl<'w, 's, S: Source, R: ScalarRule> Walk<'w, 's, S, R> {
         }
     }
 
-    // The body of the record of a value, after the tests that come before it is opened; where something is to come in it,
-    // that is left in `inside`. Without a type it is kept as it is.
+    // The body of the record of a value, after the tests that come before it is opened. What is to come in it, and the
+    // custom scalar whose rule is to be asked, are left in `inside`, which comes in empty. Without a type it is kept as it is.
     // Not inlined, and what is inside is left where the caller has room for it: moving it costs as much as the rest.
     #[inline(never)]
     fn opening(
@@ -500,7 +501,7 @@ impl<'w, 's, S: Source, R: ScalarRule> Walk<'w, 's, S, R> {
         }
     }
 
-    // The same again and again, until no record is open, or one of another source is.
+    // The same again and again, until no record is open, or one of another source is: of a default, or of none.
     fn run(
         &self,
         in_default: bool,
