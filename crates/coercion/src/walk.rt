@@ -1,11 +1,10 @@
 // The walk of a raw value at its type.
-ghost use Rattle.std.specs.Prelude.{◌≡◌, ℕ, ◌+◌, ◌^◌, ◌<◌, ◌≤◌, true, false, cond, length, map, IfOk, IfSome, OnOk};
+ghost use Rattle.std.specs.Prelude.{◌≡◌, ℕ, ◌+◌, ◌^◌, ◌<◌, ◌≤◌, true, false, cond, length, map, OnOk};
 ghost use Rattle.record.specs.Held.{size, Kept};
 ghost use mathlib.Core.Option.{Option as Perhaps};
 ghost use Rattle.model.specs.Values.{Name, Def, Scalar, scalar as scalar_at, Raw, Mems, Form, place_of, object as object_at};
 ghost use Rattle.model.specs.Coercion.{member as member_of};
 ghost use Rattle.model.specs.Refusals.{Here};
-ghost use Rattle.record.specs.declared.body.Body.TheVariants.{List as ListBody};
 ghost use Rattle.model.specs.Scalars.{as_enum, scalar_at as plain_at};
 ghost use Rattle.source.specs.Heads.{kind_of, scalar_kind};
 ghost use Rattle.schema.specs.Spans.{rows_in, inside_at};
@@ -287,7 +286,7 @@ impl<'w, 's, S: Source, R: ScalarRule> Walk<'w, 's, S, R> {
 
     // The body of the record of a value, after the tests that come before it is opened. What is to come in it, and the
     // custom scalar whose rule is to be asked, are left in `inside`, which comes in empty. Without a type it is kept as it is.
-    // Not inlined, and what is inside is left where the caller has room for it: moving it costs as much as the rest.
+    // Not inlined, and what is inside is left where the caller has room for it, so that it is not copied on the way.
     #[inline(never)]
     fn opening(
         &self,
@@ -476,7 +475,7 @@ impl<'w, 's, S: Source, R: ScalarRule> Walk<'w, 's, S, R> {
     }
 
     // Goes on in the innermost open record: closes it, or opens the next one in it.
-    // Inlined, so that the loop goes on without a result to be handed on: lists are walked in three quarters of the time.
+    // Inlined, so that the loop goes on without a result to be handed on.
     #[inline(always)]
     fn turn(&self, out: &mut Working<'_>, frames: &mut Frames) -> Result<(), ValueFault>
         requires inside { out.old.used ≤ size out.old }
@@ -501,7 +500,8 @@ impl<'w, 's, S: Source, R: ScalarRule> Walk<'w, 's, S, R> {
         }
     }
 
-    // The same again and again, until no record is open, or one of another source is: of a default, or of none.
+    // The same again and again, until no record is open or the innermost is not of this source: `in_default` says whether
+    // this is the source of the defaults.
     fn run(
         &self,
         in_default: bool,
